@@ -1,0 +1,130 @@
+-- How tokens are spelled: names, numbers, reserved words and symbols.
+use Rattle.std.specs.Prelude.{◌≡◌, ℕ, ◌-◌, Bool, true, false, not, ◌&&◌, ◌||◌, ◌==◌, nat_le, List, [], ◌∷◌, codes}
+use Rattle.std.specs.List.{list_all, list_any}
+use Rattle.std.specs.Str.{bytes_eq}
+use Rattle.trio_text.specs.declared.token.Reserved.{Reserved}
+use Rattle.trio_text.specs.declared.token.Reserved.TheVariants as reserved
+use Rattle.trio_text.specs.declared.token.Symbol.{Symbol}
+use Rattle.trio_text.specs.declared.token.Symbol.TheVariants as symbol
+use Rattle.trio_text.specs.declared.token.TokenKind.{TokenKind}
+use Rattle.trio_text.specs.declared.token.TokenKind.TheVariants as kind
+
+-- an ASCII letter
+abbrev pub is_letter : ℕ → Bool
+is_letter b = nat_le 65 b && nat_le b 90 || nat_le 97 b && nat_le b 122
+
+abbrev pub is_digit : ℕ → Bool
+is_digit b = nat_le 48 b && nat_le b 57
+
+-- a byte that may go on with a name
+abbrev pub is_name_byte : ℕ → Bool
+is_name_byte b = is_letter b || is_digit b || b == 95
+
+-- space, tab, CR or LF
+abbrev pub is_blank : ℕ → Bool
+is_blank b = b == 32 || b == 9 || b == 13 || b == 10
+
+-- how a reserved word is spelled
+abbrev pub word_text : Reserved → List ℕ
+word_text reserved.Time = codes "time"
+word_text reserved.Domain = codes "domain"
+word_text reserved.Item = codes "item"
+word_text reserved.Input = codes "input"
+word_text reserved.Fixed = codes "fixed"
+word_text reserved.Axiom = codes "axiom"
+word_text reserved.Goal = codes "goal"
+word_text reserved.At = codes "at"
+word_text reserved.All = codes "all"
+word_text reserved.Ex = codes "ex"
+word_text reserved.Bool = codes "bool"
+word_text reserved.True = codes "true"
+word_text reserved.False = codes "false"
+word_text reserved.Dist = codes "Dist"
+word_text reserved.Futr = codes "Futr"
+word_text reserved.Past = codes "Past"
+word_text reserved.Alw = codes "Alw"
+word_text reserved.AlwF = codes "AlwF"
+word_text reserved.AlwP = codes "AlwP"
+word_text reserved.Som = codes "Som"
+word_text reserved.SomF = codes "SomF"
+word_text reserved.SomP = codes "SomP"
+word_text reserved.Until = codes "Until"
+word_text reserved.Since = codes "Since"
+word_text reserved.NextTime = codes "NextTime"
+word_text reserved.LastTime = codes "LastTime"
+word_text reserved.Lasts = codes "Lasts"
+word_text reserved.LastsIi = codes "Lasts_ii"
+word_text reserved.LastsIe = codes "Lasts_ie"
+word_text reserved.LastsEi = codes "Lasts_ei"
+word_text reserved.Lasted = codes "Lasted"
+word_text reserved.LastedIi = codes "Lasted_ii"
+word_text reserved.LastedIe = codes "Lasted_ie"
+word_text reserved.LastedEi = codes "Lasted_ei"
+word_text reserved.WithinF = codes "WithinF"
+word_text reserved.WithinFIi = codes "WithinF_ii"
+word_text reserved.WithinFIe = codes "WithinF_ie"
+word_text reserved.WithinFEi = codes "WithinF_ei"
+word_text reserved.WithinP = codes "WithinP"
+word_text reserved.WithinPIi = codes "WithinP_ii"
+word_text reserved.WithinPIe = codes "WithinP_ie"
+word_text reserved.WithinPEi = codes "WithinP_ei"
+
+-- every reserved word
+abbrev pub reserved_words : List Reserved
+reserved_words =
+    reserved.Time ∷ reserved.Domain ∷ reserved.Item ∷ reserved.Input ∷ reserved.Fixed ∷ reserved.Axiom ∷
+    reserved.Goal ∷ reserved.At ∷ reserved.All ∷ reserved.Ex ∷ reserved.Bool ∷ reserved.True ∷
+    reserved.False ∷ reserved.Dist ∷ reserved.Futr ∷ reserved.Past ∷ reserved.Alw ∷ reserved.AlwF ∷
+    reserved.AlwP ∷ reserved.Som ∷ reserved.SomF ∷ reserved.SomP ∷ reserved.Until ∷ reserved.Since ∷
+    reserved.NextTime ∷ reserved.LastTime ∷ reserved.Lasts ∷ reserved.LastsIi ∷ reserved.LastsIe ∷
+    reserved.LastsEi ∷ reserved.Lasted ∷ reserved.LastedIi ∷ reserved.LastedIe ∷ reserved.LastedEi ∷
+    reserved.WithinF ∷ reserved.WithinFIi ∷ reserved.WithinFIe ∷ reserved.WithinFEi ∷ reserved.WithinP ∷
+    reserved.WithinPIi ∷ reserved.WithinPIe ∷ reserved.WithinPEi ∷ []
+
+-- how a symbol is spelled
+abbrev pub symbol_text : Symbol → List ℕ
+symbol_text symbol.Semi = codes ";"
+symbol_text symbol.Colon = codes ":"
+symbol_text symbol.Comma = codes ","
+symbol_text symbol.LeftRound = codes "("
+symbol_text symbol.RightRound = codes ")"
+symbol_text symbol.LeftSquare = codes "["
+symbol_text symbol.RightSquare = codes "]"
+symbol_text symbol.LeftBrace = codes "{"
+symbol_text symbol.RightBrace = codes "}"
+symbol_text symbol.Eq = codes "="
+symbol_text symbol.Ne = codes "!="
+symbol_text symbol.Lt = codes "<"
+symbol_text symbol.Le = codes "<="
+symbol_text symbol.Gt = codes ">"
+symbol_text symbol.Ge = codes ">="
+symbol_text symbol.Arrow = codes "->"
+symbol_text symbol.Both = codes "<->"
+symbol_text symbol.And = codes "&"
+symbol_text symbol.Or = codes "|"
+symbol_text symbol.Not = codes "!"
+symbol_text symbol.Plus = codes "+"
+symbol_text symbol.Minus = codes "-"
+symbol_text symbol.Times = codes "*"
+symbol_text symbol.Span = codes ".."
+symbol_text symbol.Unknown = codes "?"
+
+abbrev pub is_reserved : List ℕ → Bool
+is_reserved word = list_any (λ r. bytes_eq word (word_text r)) reserved_words
+
+-- a name: a letter, then letters, digits and `_`, and no reserved word
+abbrev pub is_name : List ℕ → Bool
+is_name [] = false
+is_name (b ∷ bs) = is_letter b && (list_all is_name_byte bs && not (is_reserved (b ∷ bs)))
+
+-- a number: one or more digits
+abbrev pub is_number : List ℕ → Bool
+is_number [] = false
+is_number (b ∷ bs) = is_digit b && list_all is_digit bs
+
+-- these bytes are the spelling of a token of this kind
+abbrev pub Spells : TokenKind → List ℕ → Type 0
+Spells kind.Name word = is_name word ≡ true
+Spells kind.Number word = is_number word ≡ true
+Spells (kind.Word r) word = word ≡ word_text r
+Spells (kind.Sign s) word = word ≡ symbol_text s
