@@ -1,24 +1,13 @@
 -- How tokens are spelled: names, numbers, reserved words and symbols.
-use Rattle.std.specs.Prelude.{◌≡◌, ℕ, ◌-◌, Bool, true, false, not, ◌&&◌, ◌||◌, ◌==◌, nat_le, List, [], ◌∷◌, codes}
-use Rattle.std.specs.List.{list_all, list_any}
-use Rattle.std.specs.Str.{bytes_eq}
+use Rattle.std.specs.Prelude.{◌≡◌, ℕ, Bool, true, false, ◌&&◌, ◌||◌, ◌==◌, List, [], ◌∷◌, codes}
+use Rattle.std.specs.List.{list_all}
+pub use Rattle.trio_base.specs.Names.{is_letter, is_digit, is_name_byte, is_reserved, is_name}
 use Rattle.trio_text.specs.declared.token.Reserved.{Reserved}
 use Rattle.trio_text.specs.declared.token.Reserved.TheVariants as reserved
 use Rattle.trio_text.specs.declared.token.Symbol.{Symbol}
 use Rattle.trio_text.specs.declared.token.Symbol.TheVariants as symbol
 use Rattle.trio_text.specs.declared.token.TokenKind.{TokenKind}
 use Rattle.trio_text.specs.declared.token.TokenKind.TheVariants as kind
-
--- an ASCII letter
-abbrev pub is_letter : ℕ → Bool
-is_letter b = nat_le 65 b && nat_le b 90 || nat_le 97 b && nat_le b 122
-
-abbrev pub is_digit : ℕ → Bool
-is_digit b = nat_le 48 b && nat_le b 57
-
--- a byte that may go on with a name
-abbrev pub is_name_byte : ℕ → Bool
-is_name_byte b = is_letter b || is_digit b || b == 95
 
 -- space, tab, CR or LF
 abbrev pub is_blank : ℕ → Bool
@@ -69,18 +58,6 @@ word_text reserved.WithinPIi = codes "WithinP_ii"
 word_text reserved.WithinPIe = codes "WithinP_ie"
 word_text reserved.WithinPEi = codes "WithinP_ei"
 
--- every reserved word
-abbrev pub reserved_words : List Reserved
-reserved_words =
-    reserved.Time ∷ reserved.Domain ∷ reserved.Item ∷ reserved.Input ∷ reserved.Fixed ∷ reserved.Axiom ∷
-    reserved.Goal ∷ reserved.At ∷ reserved.All ∷ reserved.Ex ∷ reserved.Bool ∷ reserved.True ∷
-    reserved.False ∷ reserved.Dist ∷ reserved.Futr ∷ reserved.Past ∷ reserved.Alw ∷ reserved.AlwF ∷
-    reserved.AlwP ∷ reserved.Som ∷ reserved.SomF ∷ reserved.SomP ∷ reserved.Until ∷ reserved.Since ∷
-    reserved.NextTime ∷ reserved.LastTime ∷ reserved.Lasts ∷ reserved.LastsIi ∷ reserved.LastsIe ∷
-    reserved.LastsEi ∷ reserved.Lasted ∷ reserved.LastedIi ∷ reserved.LastedIe ∷ reserved.LastedEi ∷
-    reserved.WithinF ∷ reserved.WithinFIi ∷ reserved.WithinFIe ∷ reserved.WithinFEi ∷ reserved.WithinP ∷
-    reserved.WithinPIi ∷ reserved.WithinPIe ∷ reserved.WithinPEi ∷ []
-
 -- how a symbol is spelled
 abbrev pub symbol_text : Symbol → List ℕ
 symbol_text symbol.Semi = codes ";"
@@ -108,14 +85,6 @@ symbol_text symbol.Minus = codes "-"
 symbol_text symbol.Times = codes "*"
 symbol_text symbol.Span = codes ".."
 symbol_text symbol.Unknown = codes "?"
-
-abbrev pub is_reserved : List ℕ → Bool
-is_reserved word = list_any (λ r. bytes_eq word (word_text r)) reserved_words
-
--- a name: a letter, then letters, digits and `_`, and no reserved word
-abbrev pub is_name : List ℕ → Bool
-is_name [] = false
-is_name (b ∷ bs) = is_letter b && (list_all is_name_byte bs && not (is_reserved (b ∷ bs)))
 
 -- a number: one or more digits
 abbrev pub is_number : List ℕ → Bool
