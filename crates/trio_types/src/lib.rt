@@ -1,0 +1,9 @@
+//! Specifications, cells and tables, and what formulas mean in a table.
+#![tactic(auto)]
+
+mod formula;
+mod spec;
+
+pub use formula::{FarOp, Formula, Formulas, SignedTerm, SignedTerms, Term, Terms};
+pub use spec::{Axiom, Axioms, Domain, DomainKind, Domains, Goal, Ids, Item, Items, Spec};
+pub use trio_base::{Bytes, List, Name};

@@ -1,0 +1,62 @@
+ghost use Rattle.trio_types.specs.WellFormed.{is_well_formed};
+ghost use Rattle.std.specs.Prelude.{IsTrue};
+
+use crate::formula::Formula;
+use trio_base::{List, Name};
+
+/// Numbers of domains or of other things that are numbered from 0.
+pub type Ids = List<u32>;
+
+/// The values of a domain.
+#[derive(Clone, Copy, Debug, PartialEq, Eq)]
+pub enum DomainKind {
+    /// `false` and `true`, with the indexes 0 and 1.
+    Bool,
+}
+
+/// A domain with its name.
+#[derive(Debug, Drop)]
+pub struct Domain {
+    pub name: Name,
+    pub kind: DomainKind,
+}
+
+pub type Domains = List<Domain>;
+
+/// A time-dependent item: for each tuple of its arguments and each instant it has a value.
+#[derive(Debug, Drop)]
+pub struct Item {
+    pub name: Name,
+    /// Whether it was declared as an input.
+    pub input: bool,
+    /// The domains of its arguments.
+    pub args: Ids,
+    /// The domain of its values.
+    pub value: u32,
+}
+
+pub type Items = List<Item>;
+
+/// A formula that has to hold, at every instant or at one.
+#[derive(Debug, Drop)]
+pub struct Axiom {
+    pub name: Name,
+    /// The one instant, where there is one.
+    pub at: Option<u32>,
+    pub formula: Formula,
+}
+
+pub type Axioms = List<Axiom>;
+
+pub type Goal = Axiom;
+
+/// A specification. Instants are `0..instants`.
+#[derive(Debug, Drop)]
+pub struct Spec {
+    pub instants: u32,
+    pub domains: Domains,
+    pub items: Items,
+    pub axioms: Axioms,
+    pub goals: Axioms,
+    pub ghost well_formed: { IsTrue (is_well_formed instants domains items axioms goals) },
+}
