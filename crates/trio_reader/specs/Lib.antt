@@ -1,0 +1,6 @@
+pub mod Places
+pub mod Scope
+pub mod Kinds
+pub mod Ranges
+pub mod Erasure
+pub mod Reading
