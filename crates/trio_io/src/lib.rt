@@ -1,0 +1,11 @@
+//! What the program reaches outside itself: shelves of files, sinks for text, bells. Each is a trait, with forms of it
+//! in memory that tell all they hold, and adapters over the real thing that tell nothing of content.
+#![tactic(auto)]
+
+mod bell;
+mod shelf;
+mod sink;
+
+pub use bell::{Bell, StillBell};
+pub use shelf::{Shelf, ShelfFault};
+pub use sink::{Sink, SinkFault, write_whole};
