@@ -1,5 +1,5 @@
 -- What the contracts of shelves, sinks and bells say: counts that rise, files by name, bytes that were written.
-use Rattle.std.specs.Prelude.{◌≡◌, ℕ, ◌+◌, ◌-◌, ◌^◌, ◌<◌, ◌≤◌, min, Bool, true, false, List, [], ◌++◌, length, Option, Some, None, ◌⊎◌}
+use Rattle.std.specs.Prelude.{◌≡◌, ℕ, ◌+◌, ◌-◌, ◌^◌, ◌<◌, ◌≤◌, min, Bool, true, false, List, ◌++◌, length, Option, Some, None, ◌⊎◌}
 
 -- What a shelf holds: the bytes of the file under each name, where there is one.
 abbrev pub FileMap : Type 0
