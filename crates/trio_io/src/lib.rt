@@ -3,9 +3,15 @@
 #![tactic(auto)]
 
 mod bell;
+mod files;
+mod memory_shelf;
+mod memory_sink;
 mod shelf;
 mod sink;
 
 pub use bell::{Bell, StillBell};
+pub use files::{Counts, Files};
+pub use memory_shelf::MemShelf;
+pub use memory_sink::MemSink;
 pub use shelf::{Shelf, ShelfFault};
 pub use sink::{Sink, SinkFault, write_whole};

@@ -3,7 +3,7 @@ ghost use Rattle.std.specs.Prelude.{◌≡◌, ◌≢◌, ℕ, ◌<◌, Bool, tr
 ghost use Rattle.trio_io.specs.Outside.{FileMap, ShelfCounts, IsLater, Fetched, HasFetchCause, Rose};
 
 /// Why a shelf refused.
-#[derive(Clone, Copy, Debug)]
+#[derive(Clone, Copy, Debug, PartialEq, Eq)]
 pub enum ShelfFault {
     /// There is no such file, or it could not be read or written.
     Failed,
