@@ -11,11 +11,13 @@ none_written tells old bytes = (record { front = []; rest = bytes; parts = refl;
 pub more_written : (tells now_tells : Bool) (old mid new bytes rest left : List ℕ) (count : ℕ) → now_tells ≡ tells
     → (w : WritesFront tells old mid bytes) × (w.rest ≡ rest) → Writes now_tells mid new (take count rest) → left ≡ drop count rest
     → (w : WritesFront tells old new bytes) × (w.rest ≡ left)
-more_written tells now_tells old mid new bytes rest left count same w wrote dropped =
-    (record {
-        front = w.0.front ++ take count rest;
-        rest = left;
-        parts = let joined : take count rest ++ drop count rest ≡ rest = grind (arith, common_steps) in grind (arith, common_steps);
-        written = λ told. let before : mid ≡ old ++ w.0.front = w.0.written told in let after : new ≡ mid ++ take count rest = wrote (same ∙ told) in
-            grind (arith, common_steps)
-    }, refl)
+more_written tells now_tells old mid new bytes rest left count same w wrote dropped = (
+  record {
+    front = w.0.front ++ take count rest;
+    rest = left;
+    parts = let joined : take count rest ++ drop count rest ≡ rest = grind (arith, common_steps) in grind (arith, common_steps);
+    written = λ told. let before : mid ≡ old ++ w.0.front = w.0.written told in let after : new ≡ mid ++ take count rest = wrote (same ∙ told) in
+        grind (arith, common_steps);
+  },
+  refl,
+)

@@ -26,7 +26,7 @@ mem_counts shelf = record {
   absences = shelf.absences;
   failed_fetches = shelf.failed_fetches;
   failed_puts = shelf.failed_puts;
-  calls = shelf.calls
+  calls = shelf.calls;
 }
 
 -- Whether the next call is one of those that fail; calls are counted from 1.

@@ -6,7 +6,6 @@ ghost use Rattle.trio_io.specs.MemoryShelf.{files_of};
 use std::alloc::{AllocError, Global};
 use std::collections::BTreeMap;
 
-
 /// A list of counts, as the numbers of the calls that are to fail.
 pub type Counts = trio_base::List<u64>;
 

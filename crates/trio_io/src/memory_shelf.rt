@@ -65,11 +65,10 @@ impl Shelf for MemShelf {
 
     fn fetch(&mut self, name: &str, max: u64, into: &mut Vec<u8>) -> Result<(), ShelfFault>
         ensures later { IsLater 1 (mem_counts self.old) (mem_counts self.new) }
-        ensures still { true ≡ true }
         ensures files { (n : List ℕ) → mem_files self.new n ≡ mem_files self.old n }
         ensures ok { OnOk result (Fetched true (mem_files self.old name.now) max into.old.items into.new.items) }
         ensures failed { result ≡ Err ShelfFault.Failed → HasFetchCause (mem_counts self.old) (mem_counts self.new) true (mem_files self.old name.now) }
-        ensures long { result ≡ Err ShelfFault.TooLong → true ≡ true → IsSomeAnd (mem_files self.old name.now) (λ bytes. max < length bytes) }
+        ensures long { result ≡ Err ShelfFault.TooLong → IsSomeAnd (mem_files self.old name.now) (λ bytes. max < length bytes) }
         ensures err { OnErr result (into.new.items ≡ into.old.items) }
         ensures answer { (result ≡ fetch_answer (mem_fails self.old) (mem_files self.old name.now) max) ⊎ (result ≡ Err ShelfFault.Memory) }
         ensures counted { mem_counts self.new ≡ fetch_counts (mem_fails self.old) (mem_files self.old name.now) (mem_counts self.old) }
@@ -94,9 +93,8 @@ impl Shelf for MemShelf {
 
     fn put(&mut self, name: &str, bytes: &[u8]) -> Result<(), ShelfFault>
         ensures later { IsLater 1 (mem_counts self.old) (mem_counts self.new) }
-        ensures still { true ≡ true }
         ensures others { (n : List ℕ) → n ≢ name.now → mem_files self.new n ≡ mem_files self.old n }
-        ensures ok { OnOk result (true ≡ true → mem_files self.new name.now ≡ Some bytes.now) }
+        ensures ok { OnOk result (mem_files self.new name.now ≡ Some bytes.now) }
         ensures failed { result ≡ Err ShelfFault.Failed → Rose (mem_counts self.old).failed_puts (mem_counts self.new).failed_puts }
         ensures long { result ≢ Err ShelfFault.TooLong }
         ensures kept { OnErr result ((n : List ℕ) → mem_files self.new n ≡ mem_files self.old n) }

@@ -64,12 +64,11 @@ impl Sink for MemSink {
 
     fn write(&mut self, piece: &[u8]) -> Result<usize, SinkFault>
         ensures later { mem_faults self.old ≤ mem_faults self.new }
-        ensures still { true ≡ true }
         ensures took { IfOk result (λ n. n ≤ length piece.now) }
         ensures some { IfOk result (λ n. 0 < length piece.now → 0 < n) }
-        ensures ok { IfOk result (λ n. Writes true (mem_written self.old) (mem_written self.new) (take n piece.now)) }
+        ensures ok { IfOk result (λ n. mem_written self.new ≡ mem_written self.old ++ take n piece.now) }
         ensures failed { OnErr result (Rose (mem_faults self.old) (mem_faults self.new)) }
-        ensures err { OnErr result (Writes true (mem_written self.old) (mem_written self.new) []) }
+        ensures err { OnErr result (mem_written self.new ≡ mem_written self.old) }
         ensures empty { length piece.now ≡ 0 → IsOk result }
         ensures uncounted { length piece.now ≡ 0 → mem_faults self.new ≡ mem_faults self.old }
         ensures answer { result ≡ write_answer self.old (length piece.now) }

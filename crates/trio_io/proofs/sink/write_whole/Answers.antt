@@ -8,7 +8,7 @@ pub loop-rest-init : goal.loop-rest-init
 loop-rest-init g c = record {
   later = omega arith;
   still = cc;
-  front = none_written (g.K.Sink.tells c.args.sink.now) (g.K.Sink.written c.args.sink.now) c.args.bytes.now
+  front = none_written (g.K.Sink.tells c.args.sink.now) (g.K.Sink.written c.args.sink.now) c.args.bytes.now;
 }
 
 pub loop-rest-preserved : goal.loop-rest-preserved
@@ -16,5 +16,5 @@ loop-rest-preserved g c = record {
   later = omega (arith, c.loop-rest.invariant.later, c.in_ok-count.ensures.later);
   still = cc (c.loop-rest.invariant.still, c.in_ok-count.ensures.still);
   front = more_written _ _ _ _ _ _ c.loop-rest.rest.now _ c.in_ok-count.count c.loop-rest.invariant.still c.loop-rest.invariant.front c.in_ok-count.ensures.ok
-    (grind (arith, common_steps))
+      (grind (arith, common_steps));
 }
