@@ -1,5 +1,5 @@
 -- What a sink in memory holds and counts, and what it answers.
-use Rattle.std.specs.Prelude.{◌≡◌, ℕ, ◌+◌, ◌-◌, ◌==◌, min, Bool, true, false, List, length, Result, Ok, Err, if◌then◌else◌, ◌||◌}
+use Rattle.std.specs.Prelude.{ℕ, ◌-◌, ◌==◌, min, Bool, List, length, Result, Ok, Err, if◌then◌else◌, ◌||◌}
 use Rattle.std.specs.Bool.{nat_le}
 use Rattle.std.specs.List.{list_any}
 use Rattle.trio_io.specs.MemoryShelf.{raised}

@@ -19,3 +19,6 @@ pub use memory_sink::MemSink;
 pub use out_sink::OutSink;
 pub use shelf::{Shelf, ShelfFault};
 pub use sink::{Sink, SinkFault, write_whole};
+
+#[cfg(test)]
+mod tests;
