@@ -1,0 +1,3 @@
+pub mod MemoryShelf
+pub mod MemorySink
+pub mod Outside

@@ -1,0 +1,8 @@
+-- All that was read was appended, and is short enough.
+use Rattle.std.proofs.Common.{arith}
+use Rattle.std.proofs.lemmas.Grind.{common_steps}
+use Rattle.trio_io.proofs.Fetches.{appended}
+use Rattle.trio_io.proofs.file_shelf.read_up_to.Goals as goal
+
+pub returns-in-Ok-clause-ok : goal.returns-in-Ok-clause-ok
+returns-in-Ok-clause-ok g c = appended _ _ c.in-Ok.count _ c.in-Ok.ensures.appends (grind (arith, common_steps)) c.if-count-max.true

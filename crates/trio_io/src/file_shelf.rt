@@ -1,0 +1,78 @@
+//! The shelf of the real files. It tells nothing of what they hold.
+ghost use Rattle.std.specs.Prelude.{◌≡◌, ◌++◌, ◌<◌, false, None, List, length, IfSome, OnOk, OnErr};
+ghost use Rattle.trio_io.specs.Outside.{Fetched};
+
+use crate::shelf::{Shelf, ShelfFault};
+use std::fs;
+use std::fs::File;
+use std::io::{ErrorKind, Read};
+use std::rt::Files;
+
+/// The files that the runtime reaches. It counts each failed fetch, also of a file that is not there, and each failed
+/// put; its other counts stay 0.
+#[derive(Drop)]
+pub struct FileShelf<'a, R: Files> {
+    rt: &'a R,
+    failed_fetches: u64,
+    failed_puts: u64,
+}
+
+impl<'a, R: Files> FileShelf<'a, R> {
+    /// A shelf over this runtime.
+    pub fn new(rt: &'a R) -> FileShelf<'a, R>
+        ensures { (result.failed_fetches ≡ 0) × (result.failed_puts ≡ 0) }
+    {
+        FileShelf {
+            rt,
+            failed_fetches: 0,
+            failed_puts: 0,
+        }
+    }
+}
+
+impl<'a, R: Files> Shelf for FileShelf<'a, R> {
+    ghost tells = { λ _. false };
+
+    ghost file = { λ _ _. None };
+
+    ghost counts = { λ shelf. record { absences = 0; failed_fetches = shelf.failed_fetches; failed_puts = shelf.failed_puts; calls = 0 } };
+
+    fn fetch(&mut self, name: &str, max: u64, into: &mut Vec<u8>) -> Result<(), ShelfFault> {
+        let read = match File::open(self.rt, name) {
+            Ok(file) => read_up_to(file, max, into),
+            Err(_) => Err(ShelfFault::Failed),
+        };
+        if let Err(ShelfFault::Failed) = read {
+            self.failed_fetches = self.failed_fetches.saturating_add(1);
+        }
+        read
+    }
+
+    fn put(&mut self, name: &str, bytes: &[u8]) -> Result<(), ShelfFault> {
+        match fs::write(self.rt, name, bytes) {
+            Ok(()) => Ok(()),
+            Err(_) => {
+                self.failed_puts = self.failed_puts.saturating_add(1);
+                Err(ShelfFault::Failed)
+            }
+        }
+    }
+}
+
+/// Appends all that the reader has left, where that is at most `max` bytes.
+fn read_up_to<R: Read + Drop>(reader: R, max: u64, into: &mut Vec<u8>) -> Result<(), ShelfFault>
+    ensures ok { OnOk result (Fetched false None max into.old.items into.new.items) }
+    ensures told { OnOk result (IfSome (R.remaining reader) (λ bytes. into.new.items ≡ into.old.items ++ bytes)) }
+    ensures long { result ≡ Err ShelfFault.TooLong → IfSome (R.remaining reader) (λ bytes. max < length bytes) }
+    ensures err { OnErr result (into.new.items ≡ into.old.items) }
+{
+    let start = into.len();
+    let fault = match reader.take(max.saturating_add(1)).read_to_end(into) {
+        Ok(count) if count as u64 <= max => return Ok(()),
+        Ok(_) => ShelfFault::TooLong,
+        Err(error) if error.kind() == ErrorKind::OutOfMemory => ShelfFault::Memory,
+        Err(_) => ShelfFault::Failed,
+    };
+    into.truncate(start);
+    Err(fault)
+}

@@ -1,0 +1,24 @@
+//! What the program reaches outside itself: shelves of files, sinks for text, bells. Each is a trait, with forms of it
+//! in memory that tell all they hold, and adapters over the real thing that tell nothing of content.
+#![tactic(auto)]
+
+mod bell;
+mod file_shelf;
+mod files;
+mod memory_shelf;
+mod memory_sink;
+mod out_sink;
+mod shelf;
+mod sink;
+
+pub use bell::{Bell, StillBell};
+pub use file_shelf::FileShelf;
+pub use files::{Counts, Files};
+pub use memory_shelf::MemShelf;
+pub use memory_sink::MemSink;
+pub use out_sink::OutSink;
+pub use shelf::{Shelf, ShelfFault};
+pub use sink::{Sink, SinkFault, write_whole};
+
+#[cfg(test)]
+mod tests;
