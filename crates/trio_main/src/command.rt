@@ -1,0 +1,68 @@
+//! The words of the command line.
+ghost use Rattle.std.specs.Prelude.{◌≡◌, ◌∷◌, [], IfOk};
+ghost use Rattle.trio_main.specs.Words.{words_of, command_of, names_a_file};
+
+use std::alloc::Global;
+use trio_base::Name;
+
+/// What the words ask for.
+#[derive(Debug, Drop)]
+pub enum Command {
+    /// Whether a history satisfies a specification: the names of the specification's and the history's file.
+    Check(Name, Name),
+}
+
+impl Command {
+    /// The names of the specification's and the history's file.
+    pub fn names(&self) -> (&Name, &Name)
+        ensures { self.now ≡ Command.Check result.0.now result.1.now }
+    {
+        match self {
+            Command::Check(spec, history) => (spec, history),
+        }
+    }
+}
+
+/// Why words are no command.
+#[derive(Clone, Copy, Debug, PartialEq, Eq)]
+pub enum WordsFault {
+    /// They ask for nothing that there is.
+    Usage,
+    /// Want of memory.
+    Memory,
+}
+
+/// The command that the words are. `Usage` comes exactly where they are none.
+pub fn read_words(alloc: Global, words: &[String]) -> Result<Command, WordsFault>
+    ensures ok { IfOk result (λ command. command_of (words_of words.now) ≡ Some command) }
+    ensures usage { result ≡ Err WordsFault.Usage → command_of (words_of words.now) ≡ None }
+{
+    match words {
+        [word, spec, history] => read_three(alloc, word.as_str(), spec.as_str(), history.as_str()),
+        _ => Err(WordsFault::Usage),
+    }
+}
+
+fn read_three(alloc: Global, word: &str, spec: &str, history: &str) -> Result<Command, WordsFault>
+    ensures ok { IfOk result (λ command. command_of (word.now ∷ spec.now ∷ history.now ∷ []) ≡ Some command) }
+    ensures usage { result ≡ Err WordsFault.Usage → command_of (word.now ∷ spec.now ∷ history.now ∷ []) ≡ None }
+{
+    let is_check = word == "check" && is_file_name(spec) && is_file_name(history);
+    if !is_check {
+        return Err(WordsFault::Usage);
+    }
+    let spec = Name::new(alloc, spec).map_err(|_| WordsFault::Memory)?;
+    let history = Name::new(alloc, history).map_err(|_| WordsFault::Memory)?;
+    Ok(Command::Check(spec, history))
+}
+
+/// Whether a word names a file: it is not empty and does not begin with `--`.
+fn is_file_name(word: &str) -> bool
+    ensures { result ≡ names_a_file word.now }
+{
+    match word.as_bytes() {
+        [] => false,
+        [b'-', b'-', ..] => false,
+        _ => true,
+    }
+}

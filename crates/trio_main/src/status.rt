@@ -1,0 +1,39 @@
+//! How a command ended.
+ghost use Rattle.std.specs.Prelude.{◌≡◌};
+ghost use Rattle.trio_main.specs.Messages.{number_of};
+
+/// How a command ended.
+#[derive(Clone, Copy, Debug, PartialEq, Eq)]
+pub enum Status {
+    /// The text due was written to its end.
+    Done,
+    /// `check` found the specification false in the history.
+    False,
+    /// The words are no command.
+    Usage,
+    /// A text was refused.
+    Refused,
+    /// A file is not there, or could not be read.
+    ReadFault,
+    /// A write failed.
+    WriteFault,
+    /// Want of memory.
+    Memory,
+}
+
+impl Status {
+    /// The number with which the program ends.
+    pub fn number(self) -> u8
+        ensures { result ≡ number_of self }
+    {
+        match self {
+            Status::Done => 0,
+            Status::False => 1,
+            Status::Usage => 2,
+            Status::Refused => 4,
+            Status::ReadFault => 5,
+            Status::WriteFault => 6,
+            Status::Memory => 7,
+        }
+    }
+}
