@@ -1,3 +1,4 @@
 pub mod Spelling
 pub mod Tokens
 pub mod Lexemes
+pub mod Reading

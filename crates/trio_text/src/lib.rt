@@ -2,7 +2,10 @@
 #![tactic(auto)]
 
 mod lexeme;
+mod lexer;
+mod spelling;
 mod token;
 
-pub use lexeme::{GREATEST_NUMBER, Lexeme, Lexemes};
+pub use lexeme::{GREATEST_NUMBER, Lexeme, Lexemes, lexemes};
+pub use lexer::tokens;
 pub use token::{LexFault, Reserved, Symbol, Token, TokenKind, TokenList};
