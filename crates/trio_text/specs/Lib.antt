@@ -2,3 +2,4 @@ pub mod Spelling
 pub mod Tokens
 pub mod Lexemes
 pub mod Reading
+pub mod Spans

@@ -36,13 +36,13 @@ pub fn lexemes(alloc: Global, text: &[u8], tokens: &TokenList) -> Result<Lexemes
     let mut found = Vec::new(alloc);
     for token in tokens.as_slice() {
         let word = &text[token.start as usize..token.end as usize];
-        found.push(lexeme(alloc, token.kind, word)?)?;
+        found.push(meaning(alloc, token.kind, word)?)?;
     }
     Ok(List::from_vec(found))
 }
 
 /// What a token of this kind and spelling says.
-fn lexeme(alloc: Global, kind: TokenKind, word: &[u8]) -> Result<Lexeme, AllocError>
+fn meaning(alloc: Global, kind: TokenKind, word: &[u8]) -> Result<Lexeme, AllocError>
     requires { Spells kind word.now }
     ensures { IfOk result (λ lexeme. lexeme ≡ lexeme_of_kind kind word.now) }
 {

@@ -1,0 +1,5 @@
+pub mod Runs
+pub mod Spellings
+pub mod Longest
+pub mod Steps
+pub mod Spans
