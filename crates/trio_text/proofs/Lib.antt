@@ -3,3 +3,4 @@ pub mod Spellings
 pub mod Longest
 pub mod Steps
 pub mod Spans
+pub mod Ascii

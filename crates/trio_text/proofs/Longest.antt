@@ -1,7 +1,7 @@
 -- The token that stands at the front of a text, and that it is the longest that fits.
-use Rattle.std.proofs.Common.{◌≡◌, ℕ, ◌+◌, ◌<◌, ◌≤◌, Bool, true, false, not, ◌&&◌, ◌||◌, ◌==◌, nat_eq, nat_le, List, [], ◌∷◌, ◌++◌, length, take, drop, refl, sym, ap, subst, ◌∙◌, arith, append_assoc, length-append, leb-true, le_refl}
-use Rattle.std.specs.Prelude.{Option, Some, None, take_while, slice_get}
-use Rattle.std.specs.List.{list_all, find, starts_with}
+use Rattle.std.proofs.Common.{◌≡◌, ℕ, ◌<◌, ◌≤◌, Bool, true, false, not, ◌||◌, ◌==◌, nat_eq, nat_le, List, [], ◌∷◌, ◌++◌, length, take, drop, refl, sym, ap, subst, ◌∙◌, arith, append_assoc, length-append, leb-true}
+use Rattle.std.specs.Prelude.{Some, None, take_while, slice_get}
+use Rattle.std.specs.List.{list_all, starts_with}
 use Rattle.std.proofs.lemmas.Bool.{false≢true}
 use Rattle.std.proofs.lemmas.Bool.Decides.{Decides-eqb}
 use Rattle.std.proofs.lemmas.Slice.Eq.{starts_is}
@@ -12,7 +12,7 @@ use Rattle.trio_text.specs.declared.token.TokenKind.TheVariants as kind
 use Rattle.trio_text.specs.Spelling.{is_letter, is_digit, is_name_byte, is_number, symbol_text, Spells}
 use Rattle.trio_text.specs.Tokens.{IsLongest}
 use Rattle.trio_text.specs.Reading.{is_word, symbols, symbol_of, IsFront, BeginsNoToken}
-use Rattle.trio_text.proofs.Runs.{and_right, and_both, or_left, not_true, passes_at, find_none, found_passes, falls, found_greatest, Ends, IsRun, run, none_longer}
+use Rattle.trio_text.proofs.Runs.{and_right, and_both, or_left, not_true, passes_at, find_none, found_passes, found_greatest, Ends, IsRun, run, none_longer}
 use Rattle.trio_text.proofs.Spellings.{begins_with, is_sign_byte, begins_token, symbol_begins, symbol_listed, word_letter, word_bytes, number_digit, number_bytes, letter_word, digit_number, name_word, word_is_word, sign_symbol, token_begins}
 
 pub drop_seam : (xs ys : List ℕ) → drop (length xs) (xs ++ ys) ≡ ys
@@ -79,7 +79,7 @@ longest_symbol text rest s found whole = record {
   longest = λ k more after is spells.
       let longer = sign_symbol k (symbol_text s ++ more) spells (begins_more is_sign_byte (symbol_text s) more (symbol_begins s)) in
       let other : text ≡ symbol_text longer.0 ++ after =
-          whole ∙ ap (λ r. symbol_text s ++ r) is ∙ sym (append_assoc (symbol_text s) more after) ∙ ap (λ w. w ++ after) longer.1 in
+      whole ∙ ap (λ r. symbol_text s ++ r) is ∙ sym (append_assoc (symbol_text s) more after) ∙ ap (λ w. w ++ after) longer.1 in
       let bound : length (symbol_text longer.0) ≤ length (symbol_text s) = symbol_greatest text s longer.0 after found other in
       none_longer more (omega (arith, length-append (symbol_text s) more, ap length longer.1, bound));
 }

@@ -1,6 +1,6 @@
 -- Lists cut in two: fronts that pass a test, fronts of one list, and what the first that passes says.
-use Rattle.std.proofs.Common.{◌≡◌, ℕ, ◌+◌, ◌<◌, ◌≤◌, zero, suc, Bool, true, false, cond, not, ◌&&◌, ◌||◌, nat_le, List, [], ◌∷◌, ◌++◌, length, get_or, take, drop, refl, sym, ap, subst, ◌∙◌, arith, inl, inr, ◌⊎◌, leb-true, length-append}
-use Rattle.std.specs.Prelude.{Option, Some, None, take_while}
+use Rattle.std.proofs.Common.{◌≡◌, ℕ, ◌<◌, zero, suc, Bool, true, false, cond, not, ◌&&◌, ◌||◌, nat_le, List, [], ◌∷◌, ◌++◌, length, get_or, refl, sym, ap, subst, ◌∙◌, arith, inl, inr, ◌⊎◌}
+use Rattle.std.specs.Prelude.{Some, None, take_while}
 use Rattle.std.specs.List.{list_all, list_any, find}
 use Rattle.std.proofs.lemmas.Bool.{false≢true}
 use Rattle.std.proofs.Common.{le_refl, le-leb}
@@ -118,16 +118,22 @@ pub record IsRun (test : ℕ → Bool) (text word rest : List ℕ) : Type 0 wher
 
 run_cons : (test : ℕ → Bool) (b : ℕ) (bs w : List ℕ) (t : Bool) → test b ≡ t → w ≡ cond t (b ∷ take_while test bs) [] →
     (rest : List ℕ) × IsRun test bs (take_while test bs) rest → (rest : List ℕ) × IsRun test (b ∷ bs) w rest
-run_cons test b bs w true e is more = (more.0, record {
-  whole = ap (λ v. b ∷ v) more.1.whole ∙ ap (λ v. v ++ more.0) (sym is);
-  all = ap (list_all test) is ∙ and_both (test b) _ e more.1.all;
-  ends = more.1.ends;
-})
-run_cons test b bs w false e is more = (b ∷ bs, record {
-  whole = ap (λ v. v ++ b ∷ bs) (sym is);
-  all = ap (list_all test) is;
-  ends = e;
-})
+run_cons test b bs w true e is more = (
+  more.0,
+  record {
+    whole = ap (λ v. b ∷ v) more.1.whole ∙ ap (λ v. v ++ more.0) (sym is);
+    all = ap (list_all test) is ∙ and_both (test b) _ e more.1.all;
+    ends = more.1.ends;
+  },
+)
+run_cons test b bs w false e is more = (
+  b ∷ bs,
+  record {
+    whole = ap (λ v. v ++ b ∷ bs) (sym is);
+    all = ap (list_all test) is;
+    ends = e;
+  },
+)
 
 pub run : (test : ℕ → Bool) (text : List ℕ) → (rest : List ℕ) × IsRun test text (take_while test text) rest
 run test [] = ([], record { whole = refl; all = refl; ends = tt })

@@ -1,8 +1,7 @@
 -- Where the tokens of a text stand, and that each is spelled by its bytes.
-use Rattle.std.proofs.Common.{◌≡◌, ℕ, ◌+◌, ◌-◌, ◌<◌, ◌≤◌, zero, suc, Bool, true, false, ◌&&◌, ◌==◌, List, [], ◌∷◌, ◌++◌, length, take, drop, get_or, map, refl, sym, ap, subst, ◌∙◌, arith, append_assoc, length-append}
+use Rattle.std.proofs.Common.{◌≡◌, ℕ, ◌+◌, ◌-◌, ◌<◌, ◌≤◌, zero, suc, Bool, true, false, ◌==◌, List, [], ◌∷◌, ◌++◌, length, take, drop, get_or, map, refl, sym, ap, subst, ◌∙◌, arith, append_assoc, length-append, zero-add}
 use Rattle.std.specs.Prelude.{if◌then◌else◌}
 use Rattle.std.specs.List.{list_all}
-use Rattle.std.proofs.lemmas.Bool.{false≢true}
 use Rattle.std.proofs.Math.Seq.{take-append_seam}
 use Rattle.trio_text.specs.declared.token.Token.{Token}
 use Rattle.trio_text.specs.declared.token.TokenKind.{TokenKind}
@@ -110,7 +109,8 @@ in_order_from place line suffix tokens end (token {word = word} {text = behind} 
 )
 
 pub in_order : (text : List ℕ) (tokens : List Token) → IsTokens text tokens → StandInOrder 0 1 tokens (length text)
-in_order text tokens lexes = in_order_from 0 1 text tokens [] lexes
+in_order text tokens lexes =
+    subst (λ (n : ℕ). StandInOrder 0 1 tokens n) (zero-add (length text)) (in_order_from 0 1 text tokens [] lexes)
 
 -- ---- how many
 
@@ -120,4 +120,4 @@ fewer_from place line (t ∷ tokens) end order =
     omega (arith, order.0, order.1, fewer_from t.end t.line tokens end order.3)
 
 pub fewer : (text : List ℕ) (tokens : List Token) → IsTokens text tokens → length tokens ≤ length text
-fewer text tokens lexes = fewer_from 0 1 tokens (length text) (in_order text tokens lexes)
+fewer text tokens lexes = omega (arith, fewer_from 0 1 tokens (length text) (in_order text tokens lexes))

@@ -1,5 +1,5 @@
 -- Reading goes on by a blank, a comment or a token: what each step says of the tokens of the whole text.
-use Rattle.std.proofs.Common.{◌≡◌, ℕ, ◌+◌, ◌<◌, ◌≤◌, Bool, true, false, not, ◌&&◌, ◌==◌, eqb, List, [], ◌∷◌, ◌++◌, length, take, drop, refl, sym, ap, subst, ◌∙◌, arith, append_assoc, append-nil, length-append, inl, inr, ◌⊎◌, ne_eqb, length-drop, length-take-le, take-append-drop}
+use Rattle.std.proofs.Common.{◌≡◌, ℕ, ◌+◌, ◌<◌, true, false, not, ◌==◌, List, [], ◌∷◌, ◌++◌, length, take, drop, refl, sym, ap, subst, ◌∙◌, arith, append_assoc, append-nil, length-append, inl, inr, ◌⊎◌, ne_eqb, length-drop, length-take-le, take-append-drop}
 use Rattle.std.specs.Prelude.{if◌then◌else◌, nat_eq, take_while, Result, Ok, Err, IsErrAnd, OnOk, is_err}
 use Rattle.std.specs.List.{list_all, starts_with}
 use Rattle.std.proofs.lemmas.Bool.{false≢true}
@@ -55,34 +55,48 @@ begins_front (b ∷ word) rest begins = begins
 
 -- ---- a step is the only one
 
+-- reading ends here: nothing is left, or nothing begins
+abbrev pub Final : List ℕ → Type 0
+Final end = (end ≡ []) ⊎ BeginsNothing end
+
+final_blank : (text : List ℕ) → Final text → (b : ℕ) (rest : List ℕ) → text ≡ b ∷ rest → is_blank b ≡ true → ⊥
+final_blank text (inl empty) b rest is blanks = let no : [] ≡ b ∷ rest = sym empty ∙ is in cc
+final_blank text (inr stuck) b rest is blanks = stuck.blank b rest is blanks
+
+final_comment : (text : List ℕ) → Final text → (bytes rest : List ℕ) → text ≡ bytes ++ rest → IsComment bytes → ⊥
+final_comment text (inl empty) bytes rest is c = let no : [] ≡ 47 ∷ 47 ∷ c.line ++ rest = sym empty ∙ is ∙ ap (λ w. w ++ rest) c.begins in cc
+final_comment text (inr stuck) bytes rest is c = stuck.comment (c.line ++ rest) (is ∙ ap (λ w. w ++ rest) c.begins)
+
+final_token : (text : List ℕ) → Final text → (k : TokenKind) (word rest : List ℕ) → text ≡ word ++ rest → Spells k word → ⊥
+final_token text (inl empty) k word rest is spells =
+    false≢true (ap (begins_with begins_token) (sym empty ∙ is) ∙ begins_front word rest (token_begins k word spells))
+final_token text (inr stuck) k word rest is spells = stuck.token k word rest is spells
+
 -- behind a blank
-after_blank : (place line : ℕ) (text : List ℕ) (others : List Token) (end : List ℕ) → Lexes place line text others end → end ≡ [] →
-    (b : ℕ) (rest : List ℕ) → text ≡ b ∷ rest → is_blank b ≡ true → Lexes (place + 1) (line_after line b) rest others []
-after_blank place line text others end nothing empty b rest is blanks = let no : [] ≡ b ∷ rest = sym empty ∙ is in cc
-after_blank place line text others end (blank {b = c} {text = behind} also more) empty b rest is blanks =
+after_blank : (place line : ℕ) (text : List ℕ) (others : List Token) (end : List ℕ) → Lexes place line text others end → Final end →
+    (b : ℕ) (rest : List ℕ) → text ≡ b ∷ rest → is_blank b ≡ true → Lexes (place + 1) (line_after line b) rest others end
+after_blank place line text others end nothing final b rest is blanks = absurd (final_blank text final b rest is blanks)
+after_blank place line text others end (blank {b = c} {text = behind} also more) final b rest is blanks =
     let first : c ≡ b = cc in
     let tail : behind ≡ rest = cc in
-    subst (λ (e : List ℕ). Lexes (place + 1) (line_after line b) rest others e) empty
-    (subst (λ (t : List ℕ). Lexes (place + 1) (line_after line b) t others end) tail
-    (subst (λ (n : ℕ). Lexes (place + 1) (line_after line n) behind others end) first more))
-after_blank place line text others end (comment {bytes = bytes} {text = behind} is_comment ends more) empty b rest is blanks =
+    subst (λ (t : List ℕ). Lexes (place + 1) (line_after line b) t others end) tail
+    (subst (λ (n : ℕ). Lexes (place + 1) (line_after line n) behind others end) first more)
+after_blank place line text others end (comment {bytes = bytes} {text = behind} is_comment ends more) final b rest is blanks =
     absurd (slash_no_blank b (comment_slash bytes behind b rest is_comment is) blanks)
-after_blank place line text others end (token {word = word} {text = behind} {kind = k} spells longest more) empty b rest is blanks =
+after_blank place line text others end (token {word = word} {text = behind} {kind = k} spells longest more) final b rest is blanks =
     absurd (token_no_blank k word behind b rest spells is blanks)
 
 -- behind a comment
-after_comment : (place line : ℕ) (text : List ℕ) (others : List Token) (end : List ℕ) → Lexes place line text others end → end ≡ [] →
-    (bytes rest : List ℕ) → text ≡ bytes ++ rest → IsComment bytes → EndsLine rest → Lexes (place + length bytes) line rest others []
-after_comment place line text others end nothing empty bytes rest is c ends =
-    let no : [] ≡ 47 ∷ 47 ∷ c.line ++ rest = sym empty ∙ is ∙ ap (λ w. w ++ rest) c.begins in cc
-after_comment place line text others end (blank {b = b} {text = behind} blanks more) empty bytes rest is c ends =
+after_comment : (place line : ℕ) (text : List ℕ) (others : List Token) (end : List ℕ) → Lexes place line text others end → Final end →
+    (bytes rest : List ℕ) → text ≡ bytes ++ rest → IsComment bytes → EndsLine rest → Lexes (place + length bytes) line rest others end
+after_comment place line text others end nothing final bytes rest is c ends = absurd (final_comment text final bytes rest is c)
+after_comment place line text others end (blank {b = b} {text = behind} blanks more) final bytes rest is c ends =
     absurd (slash_no_blank b (comment_slash bytes rest b behind c (sym is)) blanks)
-after_comment place line text others end (comment {bytes = others_bytes} {text = behind} is_comment other_ends more) empty bytes rest is c ends =
+after_comment place line text others end (comment {bytes = others_bytes} {text = behind} is_comment other_ends more) final bytes rest is c ends =
     let same = run_only (λ b. not (b == 10)) others_bytes behind bytes rest (comment_run others_bytes is_comment) (ends_run behind other_ends) (comment_run bytes c) (ends_run rest ends) is in
-    subst (λ (e : List ℕ). Lexes (place + length bytes) line rest others e) empty
-    (subst (λ (t : List ℕ). Lexes (place + length bytes) line t others end) same.1
-    (subst (λ (n : List ℕ). Lexes (place + length n) line behind others end) same.0 more))
-after_comment place line text others end (token {word = word} {text = behind} {kind = k} spells longest more) empty bytes rest is c ends =
+    subst (λ (t : List ℕ). Lexes (place + length bytes) line t others end) same.1
+    (subst (λ (n : List ℕ). Lexes (place + length n) line behind others end) same.0 more)
+after_comment place line text others end (token {word = word} {text = behind} {kind = k} spells longest more) final bytes rest is c ends =
     let slashes : word ++ behind ≡ 47 ∷ (47 ∷ c.line ++ rest) = is ∙ ap (λ w. w ++ rest) c.begins in
     absurd (token_no_slash k word behind 47 (47 ∷ c.line ++ rest) spells slashes refl)
 
@@ -105,54 +119,73 @@ one_word k l word rest other behind spells longest also longest_also same =
 abbrev token_at : TokenKind → ℕ → ℕ → ℕ → Token
 token_at k place n line = record { kind = k; start = place; end = place + n; line = line }
 
-pub record After (place line : ℕ) (k : TokenKind) (word rest : List ℕ) (others : List Token) : Type 0 where
+pub record After (place line : ℕ) (k : TokenKind) (word rest : List ℕ) (others : List Token) (end : List ℕ) : Type 0 where
   pub more : List Token
-  pub behind : Lexes (place + length word) line rest more []
+  pub behind : Lexes (place + length word) line rest more end
   pub first : others ≡ token_at k place (length word) line ∷ more
 
-after_token_same : (place line : ℕ) (k l : TokenKind) (word other rest behind : List ℕ) (more : List Token) (end : List ℕ) → other ≡ word → l ≡ k → behind ≡ rest → end ≡ [] →
-    Lexes (place + length other) line behind more end → After place line k word rest (token_at l place (length other) line ∷ more)
-after_token_same place line k l word other rest behind more end words kinds tails empty lexes = record {
+after_token_same : (place line : ℕ) (k l : TokenKind) (word other rest behind : List ℕ) (more : List Token) (end : List ℕ) → other ≡ word → l ≡ k → behind ≡ rest →
+    Lexes (place + length other) line behind more end → After place line k word rest (token_at l place (length other) line ∷ more) end
+after_token_same place line k l word other rest behind more end words kinds tails lexes = record {
   more = more;
   behind =
-      subst (λ (e : List ℕ). Lexes (place + length word) line rest more e) empty
-      (subst (λ (t : List ℕ). Lexes (place + length word) line t more end) tails
-      (subst (λ (w : List ℕ). Lexes (place + length w) line behind more end) words lexes));
+      subst (λ (t : List ℕ). Lexes (place + length word) line t more end) tails
+      (subst (λ (w : List ℕ). Lexes (place + length w) line behind more end) words lexes);
   first = λ i. token_at (kinds i) place (length (words i)) line ∷ more;
 }
 
-after_token : (place line : ℕ) (text : List ℕ) (others : List Token) (end : List ℕ) → Lexes place line text others end → end ≡ [] →
-    (k : TokenKind) (word rest : List ℕ) → text ≡ word ++ rest → Spells k word → IsLongest word rest → After place line k word rest others
-after_token place line text others end nothing empty k word rest is spells longest =
-    absurd (false≢true (ap (begins_with begins_token) (sym empty ∙ is) ∙ begins_front word rest (token_begins k word spells)))
-after_token place line text others end (blank {b = b} {text = behind} blanks more) empty k word rest is spells longest =
+after_token : (place line : ℕ) (text : List ℕ) (others : List Token) (end : List ℕ) → Lexes place line text others end → Final end →
+    (k : TokenKind) (word rest : List ℕ) → text ≡ word ++ rest → Spells k word → IsLongest word rest → After place line k word rest others end
+after_token place line text others end nothing final k word rest is spells longest = absurd (final_token text final k word rest is spells)
+after_token place line text others end (blank {b = b} {text = behind} blanks more) final k word rest is spells longest =
     absurd (token_no_blank k word rest b behind spells (sym is) blanks)
-after_token place line text others end (comment {bytes = bytes} {text = behind} c ends more) empty k word rest is spells longest =
+after_token place line text others end (comment {bytes = bytes} {text = behind} c ends more) final k word rest is spells longest =
     let slashes : word ++ rest ≡ 47 ∷ (47 ∷ c.line ++ behind) = sym is ∙ ap (λ w. w ++ behind) c.begins in
     absurd (token_no_slash k word rest 47 (47 ∷ c.line ++ behind) spells slashes refl)
-after_token place line text others end (token {word = other} {text = behind} {tokens = tokens} {kind = l} also longest_also more) empty k word rest is spells longest =
+after_token place line text others end (token {word = other} {text = behind} {tokens = tokens} {kind = l} also longest_also more) final k word rest is spells longest =
     let words : other ≡ word = one_word l k other behind word rest also longest_also spells longest is in
     let kinds : l ≡ k = one_kind l k word (subst (Spells l) words also) spells in
     let tails : behind ≡ rest = append_cancel_left word behind rest (ap (λ w. w ++ behind) (sym words) ∙ is) in
-    after_token_same place line k l word other rest behind tokens end words kinds tails empty more
+    after_token_same place line k l word other rest behind tokens end words kinds tails more
 
--- where nothing begins there are no tokens
-nothing_begins : (place line : ℕ) (text : List ℕ) (others : List Token) (end : List ℕ) → Lexes place line text others end → end ≡ [] → BeginsNothing text → ⊥
-nothing_begins place line text others end nothing empty stuck = absurd (omega (arith, stuck.some, ap length empty))
-nothing_begins place line text others end (blank {b = b} {text = behind} blanks more) empty stuck = stuck.blank b behind refl blanks
-nothing_begins place line text others end (comment {bytes = bytes} {text = behind} c ends more) empty stuck =
-    stuck.comment (c.line ++ behind) (ap (λ w. w ++ behind) c.begins)
-nothing_begins place line text others end (token {word = word} {text = behind} {kind = k} spells longest more) empty stuck =
-    stuck.token k word behind refl spells
+-- ---- a text is read in one way
 
--- the empty text has no tokens
-empty_none : (place line : ℕ) (text : List ℕ) (others : List Token) (end : List ℕ) → Lexes place line text others end → text ≡ [] → others ≡ []
-empty_none place line text others end nothing empty = refl
-empty_none place line text others end (blank {b = b} {text = behind} blanks more) empty = cc
-empty_none place line text others end (comment {bytes = bytes} {text = behind} c ends more) empty =
-    let no : 47 ∷ 47 ∷ c.line ++ behind ≡ [] = ap (λ w. w ++ behind) (sym c.begins) ∙ empty in cc
-empty_none place line text others end (token {word = word} {text = behind} {kind = k} spells longest more) empty =
-    absurd (false≢true (ap (begins_with begins_token) (sym empty) ∙ begins_front word behind (token_begins k word spells)))
+-- where reading ends there are no tokens
+ended : (place line : ℕ) (text : List ℕ) (others : List Token) (end : List ℕ) → Lexes place line text others end → Final text → (others ≡ []) × (end ≡ text)
+ended place line text others end nothing final = (refl, refl)
+ended place line text others end (blank {b = b} {text = behind} blanks more) final = absurd (final_blank text final b behind refl blanks)
+ended place line text others end (comment {bytes = bytes} {text = behind} c ends more) final = absurd (final_comment text final bytes behind refl c)
+ended place line text others end (token {word = word} {text = behind} {kind = k} spells longest more) final = absurd (final_token text final k word behind refl spells)
+
+-- two readings that end are one
+pub one_reading : (place line : ℕ) (text : List ℕ) (tokens : List Token) (end : List ℕ) → Lexes place line text tokens end → Final end →
+    (others : List Token) (other_end : List ℕ) → Lexes place line text others other_end → Final other_end → (tokens ≡ others) × (end ≡ other_end)
+one_reading place line text tokens end nothing final others other_end lexes other_final =
+    let none = ended place line text others other_end lexes final in (sym none.0, sym none.1)
+one_reading place line text tokens end (blank {b = b} {text = behind} blanks more) final others other_end lexes other_final =
+    one_reading (place + 1) (line_after line b) behind tokens end more final others other_end (after_blank place line text others other_end lexes other_final b behind refl blanks) other_final
+one_reading place line text tokens end (comment {bytes = bytes} {text = behind} c ends more) final others other_end lexes other_final =
+    one_reading (place + length bytes) line behind tokens end more final others other_end (after_comment place line text others other_end lexes other_final bytes behind refl c ends) other_final
+one_reading place line text tokens end (token {word = word} {text = behind} {tokens = rest_tokens} {kind = k} spells longest more) final others other_end lexes other_final =
+    let after = after_token place line text others other_end lexes other_final k word behind refl spells longest in
+    let same = one_reading (place + length word) line behind rest_tokens end more final after.more other_end after.behind other_final in
+    (ap (λ ts. token_at k place (length word) line ∷ ts) same.0 ∙ sym after.first, same.1)
+
+-- a text is one list of tokens
+pub one_list : (text : List ℕ) (tokens others : List Token) → IsTokens text tokens → IsTokens text others → tokens ≡ others
+one_list text tokens others lexes also = (one_reading 0 1 text tokens [] lexes (inl refl) others [] also (inl refl)).0
+
+-- a text with a fault is no list of tokens
+pub fault_or_tokens : (text : List ℕ) (place : ℕ) (tokens : List Token) → IsLexFault text place → IsTokens text tokens → ⊥
+fault_or_tokens text place tokens fault lexes =
+    let same = one_reading 0 1 text fault.tokens fault.rest fault.before (inr fault.stuck) tokens [] lexes (inl refl) in
+    omega (arith, fault.stuck.some, ap length same.1)
+
+-- a text has one fault
+pub one_fault : (text : List ℕ) (place other : ℕ) → IsLexFault text place → IsLexFault text other → place ≡ other
+one_fault text place other fault also =
+    let same = one_reading 0 1 text fault.tokens fault.rest fault.before (inr fault.stuck) also.tokens also.rest also.before (inr also.stuck) in
+    omega (arith, fault.here, also.here, ap length same.1)
 
 -- ---- steps
 
@@ -166,14 +199,14 @@ reads_none place line text = record {
 pub reads_blank : (place line b : ℕ) (text rest : List ℕ) → text ≡ b ∷ rest → is_blank b ≡ true → Reads place line text [] (place + 1) (line_after line b) rest
 reads_blank place line b text rest is blanks = record {
   into = λ more end lexes. subst (λ (t : List ℕ). Lexes place line t more end) (sym is) (blank blanks lexes);
-  only = λ others lexes. (others, after_blank place line text others [] lexes refl b rest is blanks, refl);
+  only = λ others lexes. (others, after_blank place line text others [] lexes (inl refl) b rest is blanks, refl);
   here = omega (arith, ap length is);
 }
 
 pub reads_comment : (place line : ℕ) (text bytes rest : List ℕ) → text ≡ bytes ++ rest → IsComment bytes → EndsLine rest → Reads place line text [] (place + length bytes) line rest
 reads_comment place line text bytes rest is c ends = record {
   into = λ more end lexes. subst (λ (t : List ℕ). Lexes place line t more end) (sym is) (comment c ends lexes);
-  only = λ others lexes. (others, after_comment place line text others [] lexes refl bytes rest is c ends, refl);
+  only = λ others lexes. (others, after_comment place line text others [] lexes (inl refl) bytes rest is c ends, refl);
   here = omega (arith, ap length is, length-append bytes rest);
 }
 
@@ -181,7 +214,7 @@ pub reads_token : (place line : ℕ) (k : TokenKind) (text word rest : List ℕ)
     Reads place line text (token_at k place (length word) line ∷ []) (place + length word) line rest
 reads_token place line k text word rest is spells longest = record {
   into = λ more end lexes. subst (λ (t : List ℕ). Lexes place line t (token_at k place (length word) line ∷ more) end) (sym is) (token spells longest lexes);
-  only = λ others lexes. let after = after_token place line text others [] lexes refl k word rest is spells longest in (after.more, after.behind, after.first);
+  only = λ others lexes. let after = after_token place line text others [] lexes (inl refl) k word rest is spells longest in (after.more, after.behind, after.first);
   here = omega (arith, ap length is, length-append word rest);
 }
 
@@ -206,22 +239,21 @@ reads_all text rest tokens place line r empty = (
   subst (λ (ts : List Token). Lexes 0 1 text ts []) (append-nil tokens) (r.into [] [] (subst (λ (t : List ℕ). Lexes place line t [] []) (sym empty) nothing)),
   λ others lexes.
       let last = r.only others lexes in
-      last.2 ∙ ap (λ ts. tokens ++ ts) (empty_none place line rest last.0 [] last.1 empty) ∙ append-nil tokens,
+      last.2 ∙ ap (λ ts. tokens ++ ts) (ended place line rest last.0 [] last.1 (inl empty)).0 ∙ append-nil tokens,
 )
 
 -- nothing begins behind what was read
 pub reads_stuck : (text rest : List ℕ) (tokens : List Token) (place line : ℕ) → Reads 0 1 text tokens place line rest → BeginsNothing rest →
     IsLexFault text place × ((others : List Token) → IsTokens text others → ⊥)
-reads_stuck text rest tokens place line r stuck = (
-  record {
-    tokens = tokens;
-    rest = rest;
-    before = subst (λ (ts : List Token). Lexes 0 1 text ts rest) (append-nil tokens) (r.into [] rest nothing);
-    here = omega (arith, r.here);
-    stuck = stuck;
-  },
-  λ others lexes. let last = r.only others lexes in nothing_begins place line rest last.0 [] last.1 refl stuck,
-)
+reads_stuck text rest tokens place line r stuck =
+    let fault : IsLexFault text place = record {
+      tokens = tokens;
+      rest = rest;
+      before = subst (λ (ts : List Token). Lexes 0 1 text ts rest) (append-nil tokens) (r.into [] rest nothing);
+      here = omega (arith, r.here);
+      stuck = stuck;
+    } in
+    (fault, λ others lexes. fault_or_tokens text place others fault lexes)
 
 pub begins_nothing : (text : List ℕ) → 0 < length text → BeginsNoBlank text → BeginsNoToken text → BeginsNothing text
 begins_nothing text some blanks tokens = record { some = some; blank = blanks.blank; comment = blanks.comment; token = tokens.token }

@@ -1,5 +1,5 @@
 -- What reading goes by: the longest token at the front of a text, and what a part of a text that was read says of the whole.
-use Rattle.std.specs.Prelude.{◌≡◌, ℕ, ◌+◌, ◌<◌, ◌≤◌, Bool, true, false, not, ◌&&◌, ◌==◌, nat_eq, List, [], ◌∷◌, ◌++◌, length, take, drop, Option, Some, None}
+use Rattle.std.specs.Prelude.{◌≡◌, ℕ, ◌+◌, ◌≤◌, Bool, true, false, ◌&&◌, nat_eq, List, [], ◌∷◌, ◌++◌, length, take, drop, Option}
 use Rattle.std.specs.List.{list_all, find, starts_with}
 use Rattle.std.specs.Str.{bytes_eq}
 use Rattle.trio_text.specs.declared.token.Reserved.{Reserved}

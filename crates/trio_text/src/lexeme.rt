@@ -1,11 +1,11 @@
 //! What tokens say.
 
-ghost use Rattle.std.specs.Prelude.{◌≡◌, ◌+◌, true, min, IfOk};
+ghost use Rattle.std.specs.Prelude.{◌≡◌, ◌+◌, ◌≤◌, true, min, length, IfOk};
 ghost use Rattle.trio_text.specs.Spelling.{is_name, Spells};
 ghost use Rattle.trio_text.specs.Tokens.{IsTokens};
-ghost use Rattle.trio_text.specs.Lexemes.{number_of, lexeme_of_kind, lexemes_of};
+ghost use Rattle.trio_text.specs.Lexemes.{spelling, number_of, lexeme_of_kind, lexemes_of};
 
-use crate::token::{Reserved, Symbol, TokenKind, TokenList};
+use crate::token::{Reserved, Symbol, Token, TokenKind, TokenList};
 use std::alloc::{AllocError, Global};
 use trio_base::{List, Name};
 
@@ -35,10 +35,19 @@ pub fn lexemes(alloc: Global, text: &[u8], tokens: &TokenList) -> Result<Lexemes
 {
     let mut found = Vec::new(alloc);
     for token in tokens.as_slice() {
-        let word = &text[token.start as usize..token.end as usize];
-        found.push(meaning(alloc, token.kind, word)?)?;
+        let lexeme = meaning(alloc, token.kind, spelling(text, token))?;
+        found.push(lexeme)?;
     }
     Ok(List::from_vec(found))
+}
+
+/// The bytes of a token.
+fn spelling<'a>(text: &'a [u8], token: &Token) -> &'a [u8]
+    requires some { token.now.start ≤ token.now.end }
+    requires within { token.now.end ≤ length text.now }
+    ensures { result.now ≡ spelling text.now token.now }
+{
+    &text[token.start as usize..token.end as usize]
 }
 
 /// What a token of this kind and spelling says.

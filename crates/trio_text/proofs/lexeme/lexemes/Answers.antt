@@ -1,33 +1,19 @@
-use Rattle.std.proofs.Common.{rules, ◌≡◌, ◌+◌, true, min, IfOk, ℕ, ◌-◌, ◌*◌, ◌<◌, ◌≤◌, length, ◌/◌, ◌%◌, Bool, false, nat_eq, nat_lt, List, [], ◌∷◌, ◌++◌, slice_index_or, slice_set, bit_and, bit_or, Fits, w8, w32, w64, Bor, MutBor}
-use Rattle.trio_text.specs.Spelling.{is_name, Spells}
+-- each token stands at its bytes and is spelled by them
+use Rattle.std.proofs.Common.{sym, subst, le_of_lt}
+use Rattle.trio_text.specs.Spelling.{Spells}
 use Rattle.trio_text.specs.Tokens.{IsTokens}
-use Rattle.trio_text.specs.Lexemes.{number_of, lexeme_of_kind, lexemes_of}
+use Rattle.trio_text.proofs.Spans.{stands}
 use Rattle.trio_text.proofs.lexeme.lexemes.Goals as goal
 
--- src/lexeme.rt:37:5
-pub loop-token-init : goal.loop-token-init
-loop-token-init c = ?
+pub spelling-requires-clause-some : goal.spelling-requires-clause-some
+spelling-requires-clause-some c =
+    le_of_lt (stands c.args.text.now _ (subst (IsTokens c.args.text.now) (sym c.as_slice-token-items.ensures) c.requires) c.loop-token.token-index _ c.loop-token-test.true).some
 
--- src/lexeme.rt:38:20
-pub slice_bounds-word-count : goal.slice_bounds-word-count
-slice_bounds-word-count c = ?
+pub spelling-requires-clause-within : goal.spelling-requires-clause-within
+spelling-requires-clause-within c =
+    (stands c.args.text.now _ (subst (IsTokens c.args.text.now) (sym c.as_slice-token-items.ensures) c.requires) c.loop-token.token-index _ c.loop-token-test.true).within
 
--- src/lexeme.rt:38:20
-pub slice_bounds-word-start : goal.slice_bounds-word-start
-slice_bounds-word-start c = ?
-
--- src/lexeme.rt:38:20
-pub slice_bounds-word-end : goal.slice_bounds-word-end
-slice_bounds-word-end c = ?
-
--- src/lexeme.rt:39:20
 pub meaning-requires : goal.meaning-requires
-meaning-requires c = ?
-
--- src/lexeme.rt:37:5
-pub loop-token-preserved : goal.loop-token-preserved
-loop-token-preserved c = ?
-
--- src/lexeme.rt:32:1
-pub returns : goal.returns
-returns c = ?
+meaning-requires c =
+    subst (Spells _) (sym c.spelling.ensures)
+    (stands c.args.text.now _ (subst (IsTokens c.args.text.now) (sym c.as_slice-token-items.ensures) c.requires) c.loop-token.token-index _ c.loop-token-test.true).spells

@@ -1,7 +1,7 @@
 -- a word, a number or a symbol stands at the front, or none of them
-use Rattle.std.proofs.Common.{◌≡◌, true, false, sym, ap, ◌∙◌, length}
+use Rattle.std.proofs.Common.{true, sym, ap, ◌∙◌, length}
 use Rattle.trio_text.specs.Spelling.{is_letter, is_digit}
-use Rattle.trio_text.proofs.Longest.{word_front, front_word, front_number, front_symbol, begins_at, no_token}
+use Rattle.trio_text.proofs.Longest.{word_front, front_word, front_number, front_symbol, begins_at}
 use Rattle.trio_text.proofs.lexer.front.Goals as goal
 
 pub word_kind-requires : goal.word_kind-requires

@@ -1,5 +1,5 @@
 -- each step of the loop goes past a blank, a comment or a token
-use Rattle.std.proofs.Common.{◌≡◌, ◌+◌, ◌<◌, List, ℕ, [], ◌∷◌, ◌++◌, length, subst, sym, ap, ◌∙◌, arith, rules}
+use Rattle.std.proofs.Common.{◌+◌, List, length, subst, sym, ap, ◌∙◌, arith}
 use Rattle.trio_text.specs.declared.token.Token.{Token}
 use Rattle.trio_text.specs.Reading.{Reads}
 use Rattle.trio_text.proofs.Steps.{reads_none, reads_past, all_read, no_error, reads_next, reads_all, reads_fault, some_left}
