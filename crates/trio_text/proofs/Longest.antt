@@ -170,3 +170,7 @@ begins_at test (x ∷ xs) b t is answer = let same : x ≡ b = cc in ap test sam
 pub begins_some : (test : ℕ → Bool) (word : List ℕ) → begins_with test word ≡ true → 0 < length word
 begins_some test [] begins = absurd (false≢true begins)
 begins_some test (b ∷ word) begins = omega arith
+
+pub begins_none : (text : List ℕ) → None ≡ slice_get text 0 → text ≡ []
+begins_none [] is = refl
+begins_none (x ∷ xs) is = cc
