@@ -4,4 +4,4 @@
 mod check;
 pub mod table;
 
-pub use check::Verdict;
+pub use check::{Verdict, check};

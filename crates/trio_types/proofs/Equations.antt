@@ -1,5 +1,5 @@
 -- What truth, value, sort and fit are at each variant.
-use Rattle.std.proofs.Common.{◌≡◌, ℕ, ◌==◌, Bool, ℤ, pos, neg_ℤ, if◌then◌else◌, not, ◌&&◌, ◌||◌, nat_lt, nat_le, List, [], ◌∷◌, Option, None, Some, map, slice_get, refl, ap, sym, ◌∙◌}
+use Rattle.std.proofs.Common.{◌≡◌, ℕ, ◌==◌, Bool, ℤ, pos, neg_ℤ, if◌then◌else◌, not, ◌&&◌, ◌||◌, nat_lt, nat_le, List, [], ◌∷◌, Some, map, slice_get, refl, ap, sym, ◌∙◌}
 use Rattle.std.specs.List.{list_all, list_any}
 use Rattle.std.specs.Option.{option_map}
 use Rattle.std.proofs.lemmas.List.Folds.{list_all-map}

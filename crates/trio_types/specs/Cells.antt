@@ -31,7 +31,7 @@ are_indexes domains [] [] = true
 are_indexes domains (d ∷ ds) (v ∷ vs) = nat_lt v (size_of domains d) && are_indexes domains ds vs
 are_indexes domains ds vs = false
 
-abbrev item_takes : World → Option Item → List ℕ → Bool
+abbrev pub item_takes : World → Option Item → List ℕ → Bool
 item_takes world None args = false
 item_takes world (Some item) args = are_indexes world.domains item.args args
 

@@ -1,5 +1,5 @@
 -- The laws of truth, of verdicts and of cells, in words.
-use Rattle.std.specs.Prelude.{◌≡◌, ◌≢◌, ◌↔◌, ℕ, ◌<◌, ℤ, pos, ◌+ℤ◌, Bool, true, false, List, [], Option, None, Some, slice_get}
+use Rattle.std.specs.Prelude.{◌≡◌, ◌↔◌, ℕ, ◌<◌, ℤ, pos, ◌+ℤ◌, true, false, List, [], Option, None, Some, slice_get}
 use Rattle.trio_types.specs.declared.formula.FarOp.TheVariants as far
 use Rattle.trio_types.specs.declared.formula.Term.{Term}
 use Rattle.trio_types.specs.declared.formula.Formula.{Formula}

@@ -1,9 +1,8 @@
 -- Which specifications are well formed: names are names and distinct, numbers are in range, kinds are right, limits are met.
-use Rattle.std.specs.Prelude.{ℕ, ◌+◌, ◌*◌, Bool, true, false, not, ◌&&◌, ◌||◌, ◌==◌, nat_lt, nat_le, List, [], ◌∷◌, ◌++◌, Option, None, Some, map, sum_by, length, codes}
+use Rattle.std.specs.Prelude.{ℕ, ◌*◌, Bool, true, false, not, ◌&&◌, ◌==◌, nat_lt, nat_le, List, [], ◌∷◌, ◌++◌, Option, None, Some, map, length, codes}
 use Rattle.std.specs.List.{list_all, list_any}
 use Rattle.std.specs.Str.{bytes_eq}
 use Rattle.trio_base.specs.Names.{is_name}
-use Rattle.trio_types.specs.declared.spec.DomainKind.TheVariants as kind
 use Rattle.trio_types.specs.declared.spec.Domain.{Domain}
 use Rattle.trio_types.specs.declared.spec.Item.{Item}
 use Rattle.trio_types.specs.declared.spec.Axiom.{Axiom}
