@@ -163,7 +163,7 @@ unfolding value_at
 entry_is_value w t n c fits at = found_entry (cells_of w) t n c (once_cells w) fits.whole at
 
 -- items without arguments
-no_args : (item : Item) → item_fits item ≡ true → item.args ≡ []
+pub no_args : (item : Item) → item_fits item ≡ true → item.args ≡ []
 no_args item fits = none item.args (and_parts (is_none item.args) (item.value == 0) fits).0
   where
     none : (args : List ℕ) → is_none args ≡ true → args ≡ []
