@@ -3,3 +3,4 @@ pub mod Lists
 pub mod Verdicts
 pub mod CellNumbers
 pub mod Specs
+pub mod Distances
