@@ -1,0 +1,6 @@
+pub mod Equations
+pub mod Lists
+pub mod Verdicts
+pub mod CellNumbers
+pub mod Specs
+pub mod Distances
