@@ -1,6 +1,6 @@
 -- The truth and the fit of formulas, as the checker comes to them.
-use Rattle.std.proofs.Common.{◌≡◌, ◌≢◌, ℕ, ◌<◌, ℤ, pos, negsuc, ◌+ℤ◌, ◌≤ℤ◌, Bool, true, false, not, ◌&&◌, ◌||◌, nat_eq, of_z, w64, List, [], ◌∷◌, length, take, get_or, map, Option, None, Some, refl, sym, ap, ◌∙◌, arith}
-use Rattle.std.specs.List.{list_all, list_any}
+use Rattle.std.proofs.Common.{◌≡◌, ◌≢◌, ℕ, ◌<◌, ℤ, pos, negsuc, ◌+ℤ◌, ◌≤ℤ◌, Bool, true, false, not, ◌||◌, nat_eq, of_z, w64, List, [], map, Some, refl, sym, ap, ◌∙◌, arith}
+use Rattle.std.specs.List.{list_all}
 use Rattle.std.specs.Ordering.{int_eq}
 use Rattle.std.proofs.lemmas.Bool.{and_parts, false_from_ne_true, eqb-true, eq-eqb}
 use Rattle.std.proofs.lemmas.Bool.Decides.{Decides-int_eq}
@@ -14,7 +14,6 @@ use Rattle.trio_types.specs.declared.formula.Formula.TheVariants as formula
 use Rattle.trio_types.specs.World.{World}
 use Rattle.trio_types.specs.Values.{value}
 use Rattle.trio_types.specs.Truth.{truth, is_value}
-use Rattle.trio_types.specs.Laws.{TrueAtDistance}
 use Rattle.trio_types.specs.WellFormed.{wrong, sort_of, fits, two_or_more, is_distance_term}
 use Rattle.trio_types.proofs.Equations.{truth-Lone, truth-Implies, fits-Lone, fits-Not, fits-And, fits-Or, fits-Implies, fits-Far}
 use Rattle.trio_types.proofs.Distances.{true_at_distance, distance_is_true}

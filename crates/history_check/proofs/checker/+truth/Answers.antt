@@ -1,15 +1,14 @@
-use Rattle.std.proofs.Common.{◌≡◌, ◌<◌, Bool, true, false, not, ◌&&◌, ◌||◌, ℤ, pos, ◌+ℤ◌, to_z, of_z, w64, [], length, take, get_or, refl, sym, ap, ◌∙◌, arith, rules}
+use Rattle.std.proofs.Common.{◌≡◌, Bool, true, false, not, pos, ◌+ℤ◌, to_z, of_z, w64, [], length, take, get_or, refl, sym, ap, ◌∙◌, arith, rules}
 use Rattle.std.specs.List.{list_all, list_any}
 use Rattle.std.proofs.lemmas.Bool.{and_from, or_from}
 use Rattle.std.proofs.lemmas.Int.{ints}
 use Rattle.std.proofs.lemmas.List.{take_all}
 use Rattle.std.proofs.lemmas.List.Folds.{list_all_more, list_any_more}
-use Rattle.std.proofs.lemmas.Option.{MatchOption-at_some}
 use Rattle.trio_types.specs.declared.formula.Formula.{Formula}
 use Rattle.trio_types.specs.declared.formula.Formula.TheFolds.{the_lemmas}
 use Rattle.trio_types.specs.Truth.{truth}
 use Rattle.trio_types.specs.Verdict.{world_of}
-use Rattle.trio_types.proofs.Equations.{truth-Not, truth-And, truth-Or, truth-Implies}
+use Rattle.trio_types.proofs.Equations.{truth-Not, truth-And, truth-Or}
 use Rattle.history_check.proofs.Formulas.{lone_fits, not_fits, and_fits, or_fits, implies_fits, far_fits, lone_truth, far_is, far_inside, far_outside, first_false, first_true}
 use Rattle.history_check.proofs.checker.+truth.Goals as goal
 
@@ -50,22 +49,31 @@ holds-value_of-requires-clause-term_fits t c =
     lone_fits (length c.args.spec.now.items) c.args.formula.now c.in-Lone.term c.requires.formula_fits c.in-Lone.is
 
 pub holds-holds-requires : goal.holds-holds-requires
-holds-holds-requires t c =
-    (search (ints, rules, the_lemmas),
-    (c.requires.table_fits,
-    (not_fits (length c.args.spec.now.items) c.args.formula.now c.in-Not.part c.get.result.now c.requires.formula_fits c.in-Not.is c.get.ensures, c.requires.instant_in)))
+holds-holds-requires t c = (
+  search (ints, rules, the_lemmas),
+  (
+    c.requires.table_fits,
+    (not_fits (length c.args.spec.now.items) c.args.formula.now c.in-Not.part c.get.result.now c.requires.formula_fits c.in-Not.is c.get.ensures, c.requires.instant_in),
+  ),
+)
 
 pub holds-all_hold-requires : goal.holds-all_hold-requires
-holds-all_hold-requires t c =
-    (search (ints, rules, the_lemmas),
-    (c.requires.table_fits,
-    (and_fits (length c.args.spec.now.items) c.args.formula.now c.in-And.parts c.as_slice.result.now c.requires.formula_fits c.in-And.is c.as_slice.ensures, c.requires.instant_in)))
+holds-all_hold-requires t c = (
+  search (ints, rules, the_lemmas),
+  (
+    c.requires.table_fits,
+    (and_fits (length c.args.spec.now.items) c.args.formula.now c.in-And.parts c.as_slice.result.now c.requires.formula_fits c.in-And.is c.as_slice.ensures, c.requires.instant_in),
+  ),
+)
 
 pub holds-any_holds-requires : goal.holds-any_holds-requires
-holds-any_holds-requires t c =
-    (search (ints, rules, the_lemmas),
-    (c.requires.table_fits,
-    (or_fits (length c.args.spec.now.items) c.args.formula.now c.in-Or.parts c.as_slice-in-Or.result.now c.requires.formula_fits c.in-Or.is c.as_slice-in-Or.ensures, c.requires.instant_in)))
+holds-any_holds-requires t c = (
+  search (ints, rules, the_lemmas),
+  (
+    c.requires.table_fits,
+    (or_fits (length c.args.spec.now.items) c.args.formula.now c.in-Or.parts c.as_slice-in-Or.result.now c.requires.formula_fits c.in-Or.is c.as_slice-in-Or.ensures, c.requires.instant_in),
+  ),
+)
 
 pub holds-holds-requires-in-Implies : goal.holds-holds-requires-in-Implies
 holds-holds-requires-in-Implies t c =
@@ -111,7 +119,7 @@ holds-returns-then-not-holds t c =
     let w = world_of c.args.spec.now in
     let p = c.in-Implies in
     let e : truth w p.left [] c.args.table.now c.args.instant ≡ false =
-        ap (λ f. truth w f [] c.args.table.now c.args.instant) (sym c.get-in-Implies.ensures) ∙ sym c.holds-in-Implies.ensures ∙ c.if-not-holds.true in
+    ap (λ f. truth w f [] c.args.table.now c.args.instant) (sym c.get-in-Implies.ensures) ∙ sym c.holds-in-Implies.ensures ∙ c.if-not-holds.true in
     ap not c.if-not-holds.true ∙ first_false w p.left p.right c.args.table.now c.args.instant e
     ∙ ap (λ f. truth w f [] c.args.table.now c.args.instant) (sym p.is)
 
@@ -120,7 +128,7 @@ holds-returns-else-not-holds t c =
     let w = world_of c.args.spec.now in
     let p = c.in-Implies in
     let e : truth w p.left [] c.args.table.now c.args.instant ≡ true =
-        ap (λ f. truth w f [] c.args.table.now c.args.instant) (sym c.get-in-Implies.ensures) ∙ sym c.holds-in-Implies.ensures ∙ c.if-not-holds.false in
+    ap (λ f. truth w f [] c.args.table.now c.args.instant) (sym c.get-in-Implies.ensures) ∙ sym c.holds-in-Implies.ensures ∙ c.if-not-holds.false in
     c.holds-else-not-holds.ensures ∙ ap (λ f. truth w f [] c.args.table.now c.args.instant) c.get-else-not-holds.ensures
     ∙ first_true w p.left p.right c.args.table.now c.args.instant e ∙ ap (λ f. truth w f [] c.args.table.now c.args.instant) (sym p.is)
 

@@ -1,13 +1,23 @@
-use Rattle.std.proofs.Common.{rules, ◌≡◌, ◌≢◌, ◌<◌, ◌≤◌, ◌≤ℤ◌, ◌+ℤ◌, ℕ, pos, negsuc, [], length, find, not, IfOk, MatchOption, IsTrue, ◌+◌, ◌-◌, ◌*◌, ◌/◌, ◌%◌, Bool, true, false, nat_eq, nat_lt, List, ◌∷◌, ◌++◌, slice_index_or, slice_set, bit_and, bit_or, Fits, w8, w32, w64, Bor, MutBor}
-use Rattle.std.specs.List.{list_all, list_any}
-use Rattle.trio_types.specs.Cells.{IsTable}
-use Rattle.trio_types.specs.Values.{value}
+use Rattle.std.proofs.Common.{◌≡◌, ℕ, ◌-◌, not, [], find, Option, None, Some, refl, sym, ap, ◌∙◌, arith, rules, tests}
+use Rattle.std.specs.Option.{option_map}
+use Rattle.std.proofs.lemmas.Iterator.{YieldsList-from_range}
+use Rattle.std.proofs.lemmas.Iterator.Search.{find_from_yields_List}
+use Rattle.trio_types.specs.Cells.{instants_of}
 use Rattle.trio_types.specs.Truth.{truth}
-use Rattle.trio_types.specs.WellFormed.{wrong, sort_of, fits, axiom_fits}
-use Rattle.trio_types.specs.Verdict.{world_of, instants_asked, first_false}
-use Rattle.history_check.specs.Answers.{verdict_of}
+use Rattle.trio_types.specs.Verdict.{world_of, instants_asked}
 use Rattle.history_check.proofs.checker.first_false_instant.Goals as goal
 
--- src/checker.rt:41:1
+map-id : (o : Option ℕ) → option_map (λ x. x) o ≡ o
+map-id None = refl
+map-id (Some x) = refl
+
 pub returns-in-None : goal.returns-in-None
-returns-in-None c = ?
+unfolding instants_of
+returns-in-None c =
+    let w = world_of c.args.spec.now in
+    let n = c.args.spec.now.instants in
+    let p = λ (i : ℕ). not (truth w c.args.axiom.now.formula [] c.args.table.now i) in
+    let whole : n - 0 ≡ n = omega arith in
+    sym (map-id c.find.result)
+    ∙ find_from_yields_List p _ _ c.find.result c.find.ensures.ran (YieldsList-from_range 0 n n refl whole) (λ x b q k. search (rules, tests))
+    ∙ ap (λ at. find p (instants_asked w at)) (sym c.in-None.is)
