@@ -26,7 +26,7 @@ abbrev pub cell_of : Entry → Option (Option ℕ)
 cell_of entry.Unknown = Some None
 cell_of value = option_map Some (index_of value)
 
-abbrev row_is_named : List ℕ → Option Row → Bool
+abbrev pub row_is_named : List ℕ → Option Row → Bool
 row_is_named name None = false
 row_is_named name (Some row) = bytes_eq row.name name
 
@@ -34,20 +34,20 @@ row_is_named name (Some row) = bytes_eq row.name name
 abbrev pub is_row : List ℕ → Line → Bool
 is_row name line = row_is_named name (row_of line.tokens)
 
-abbrev is_item : World → List ℕ → Bool
+abbrev pub is_item : World → List ℕ → Bool
 is_item world name = list_any (λ item. bytes_eq item.name name) world.items
 
--- the first fault of a row behind earlier lines
-abbrev row_fault : World → List Line → ℕ → Option Row → Option HistoryFault
-row_fault world earlier number None = Some (fault.Syntax number)
-row_fault world earlier number (Some row) =
+-- the first fault of a row, where earlier lines have rows of these names
+abbrev pub row_fault : World → (List ℕ → Bool) → ℕ → Option Row → Option HistoryFault
+row_fault world is_taken number None = Some (fault.Syntax number)
+row_fault world is_taken number (Some row) =
     if not (is_item world row.name) then Some (fault.UnknownRow number)
-    else (if list_any (is_row row.name) earlier then Some (fault.TwiceRow number)
+    else (if is_taken row.name then Some (fault.TwiceRow number)
     else (if not (length row.entries == world.instants) then Some (fault.Length number)
     else option_map (λ column. fault.Value number (column + 1)) (position (λ value. is_none (cell_of value)) row.entries)))
 
 abbrev pub line_fault : World → List Line → Line → Option HistoryFault
-line_fault world earlier line = row_fault world earlier line.number (row_of line.tokens)
+line_fault world earlier line = row_fault world (λ name. list_any (is_row name) earlier) line.number (row_of line.tokens)
 
 abbrev first_of : Option HistoryFault → Option HistoryFault → Option HistoryFault
 first_of None later = later
@@ -62,7 +62,7 @@ lines_fault world earlier (line ∷ lines) = first_of (line_fault world earlier 
 abbrev pub missing_row : World → List Line → Option ℕ
 missing_row world lines = position (λ item. not (list_any (is_row item.name) lines)) world.items
 
-abbrev cells_of_row : Option Row → List (Option ℕ)
+abbrev pub cells_of_row : Option Row → List (Option ℕ)
 cells_of_row None = []
 cells_of_row (Some row) = map (λ value. option_and_then (λ cell. cell) (cell_of value)) row.entries
 
