@@ -49,7 +49,7 @@ row_fault world is_taken number (Some row) =
 abbrev pub line_fault : World → List Line → Line → Option HistoryFault
 line_fault world earlier line = row_fault world (λ name. list_any (is_row name) earlier) line.number (row_of line.tokens)
 
-abbrev first_of : Option HistoryFault → Option HistoryFault → Option HistoryFault
+abbrev pub first_of : Option HistoryFault → Option HistoryFault → Option HistoryFault
 first_of None later = later
 first_of (Some f) later = Some f
 
@@ -66,7 +66,7 @@ abbrev pub cells_of_row : Option Row → List (Option ℕ)
 cells_of_row None = []
 cells_of_row (Some row) = map (λ value. option_and_then (λ cell. cell) (cell_of value)) row.entries
 
-abbrev cells_of_line : Option Line → List (Option ℕ)
+abbrev pub cells_of_line : Option Line → List (Option ℕ)
 cells_of_line None = []
 cells_of_line (Some line) = cells_of_row (row_of line.tokens)
 
@@ -74,11 +74,11 @@ cells_of_line (Some line) = cells_of_row (row_of line.tokens)
 abbrev pub given_of : World → List Line → List (Option ℕ)
 given_of world lines = flat_map (λ item. cells_of_line (find (is_row item.name) lines)) world.items
 
-abbrev if_whole : World → List Line → Option ℕ → Result (List (Option ℕ)) HistoryFault
+abbrev pub if_whole : World → List Line → Option ℕ → Result (List (Option ℕ)) HistoryFault
 if_whole world lines None = Ok (given_of world lines)
 if_whole world lines (Some number) = Err (fault.MissingRow number)
 
-abbrev if_sound : World → List Line → Option HistoryFault → Result (List (Option ℕ)) HistoryFault
+abbrev pub if_sound : World → List Line → Option HistoryFault → Result (List (Option ℕ)) HistoryFault
 if_sound world lines None = if_whole world lines (missing_row world lines)
 if_sound world lines (Some f) = Err f
 

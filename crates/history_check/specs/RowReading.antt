@@ -91,6 +91,11 @@ abbrev pub IsUnknown : List (Option ℕ) → HistFault → Type 0
 IsUnknown given refusal.Refused = (table : List ℕ) → given ≡ map Some table → ⊥
 IsUnknown given refusal.Memory = Unit {0}
 
+-- how a reader of tables answers these faults: each is the one refusal
+abbrev pub refusal_of : HistoryFault → HistFault
+refusal_of fault.Memory = refusal.Memory
+refusal_of f = refusal.Refused
+
 -- the text is no history in which every value is known, or memory was wanting
 abbrev pub IsRefusal : World → List ℕ → HistFault → Type 0
 IsRefusal world text refusal.Refused = (table : List ℕ) → IsTableText world text table → ⊥

@@ -4,7 +4,7 @@ ghost use Rattle.std.specs.Prelude.{◌≡◌, ℕ, List, Option, Some, map, IfO
 ghost use Rattle.trio_types.specs.Cells.{IsTable};
 ghost use Rattle.trio_types.specs.Verdict.{world_of};
 ghost use Rattle.history_check.specs.Answers.{IsHistory, IsTableText};
-ghost use Rattle.history_check.specs.RowReading.{SaysOnly, IsRefusal, IsJoined, IsUnknown};
+ghost use Rattle.history_check.specs.RowReading.{SaysOnly, IsRefusal, IsJoined, IsUnknown, refusal_of};
 
 mod gather;
 mod lines;
@@ -81,8 +81,17 @@ pub fn read_history(alloc: Global, spec: &Spec, text: &[u8]) -> Result<Table, Hi
 {
     match read_given(alloc, spec, text) {
         Ok(given) => known(alloc, given.as_slice()),
-        Err(HistoryFault::Memory) => Err(HistFault::Memory),
-        Err(_) => Err(HistFault::Refused),
+        Err(fault) => Err(refusal(fault)),
+    }
+}
+
+/// How a fault is answered where its place is not asked.
+fn refusal(fault: HistoryFault) -> HistFault
+    ensures { result ≡ refusal_of fault }
+{
+    match fault {
+        HistoryFault::Memory => HistFault::Memory,
+        _ => HistFault::Refused,
     }
 }
 
@@ -128,5 +137,8 @@ fn joined(alloc: Global, spec: &Spec, rows: &[Row]) -> Result<Given, HistoryFaul
     if let Some(number) = gather::missing(items, rows) {
         return Err(HistoryFault::MissingRow(number as u32));
     }
-    gather::gathered(alloc, items, rows).map_err(|_| HistoryFault::Memory)
+    let Ok(given) = gather::gathered(alloc, items, rows) else {
+        return Err(HistoryFault::Memory);
+    };
+    Ok(given)
 }

@@ -1,6 +1,6 @@
 //! Reads the rows of a history text line by line.
 
-ghost use Rattle.std.specs.Prelude.{◌≡◌, [], length, MatchResult, IfOk, IfErr, map, option_map, position, is_none, take_while, ◌==◌, ◌+◌, ◌<◌, ◌^◌};
+ghost use Rattle.std.specs.Prelude.{◌≡◌, [], length, MatchResult, IfOk, IfErr, map, option_map, position, is_none, take_while, ◌==◌, ◌+◌, ◌≤◌};
 ghost use Rattle.std.specs.List.{list_any};
 ghost use Rattle.std.specs.Str.{bytes_eq};
 ghost use Rattle.trio_types.specs.World.{World};
@@ -30,19 +30,21 @@ pub fn rows(alloc: Global, spec: &Spec, tokens: &[Token], lexemes: &[Lexeme]) ->
     while let Some(first) = rest.first() {
         let line = first.line;
         let count = run_length(rest, line);
-        let row = checked_row(alloc, spec, found.as_slice(), line, &sayings[..count])?;
+        let (here, behind) = sayings.split_at(count);
+        let row = checked_row(alloc, spec, found.as_slice(), line, here)?;
         if found.push(row).is_err() {
             return Err(HistoryFault::Memory);
         }
-        rest = &rest[count..];
-        sayings = &sayings[count..];
+        rest = rest.split_at(count).1;
+        sayings = behind;
     }
     Ok(List::from_vec(found))
 }
 
 /// How many tokens at the front are on this line.
 fn run_length(tokens: &[Token], line: u64) -> usize
-    ensures { result ≡ length (take_while (λ token. token.line == line) tokens.now) }
+    ensures count { result ≡ length (take_while (λ token. token.line == line) tokens.now) }
+    ensures within { result ≤ length tokens.now }
 {
     tokens.iter().take_while(|token| token.line == line).count()
 }

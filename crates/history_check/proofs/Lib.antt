@@ -1,0 +1,4 @@
+pub mod RowEntries
+pub mod LineRuns
+pub mod LineSteps
+pub mod RowAnswers
