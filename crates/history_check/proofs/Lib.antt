@@ -2,3 +2,4 @@ pub mod RowEntries
 pub mod LineRuns
 pub mod LineSteps
 pub mod RowAnswers
+pub mod RowFits

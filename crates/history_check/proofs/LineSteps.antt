@@ -1,9 +1,10 @@
 -- Lines one after another: what is known of them behind some sound ones.
-use Rattle.std.proofs.Common.{◌≡◌, ℕ, List, [], ◌∷◌, ◌++◌, map, refl, sym, ap, ◌∙◌, cond, true, false, append_assoc, append-nil, subst, not, position, take, drop, Result, Ok, Err, slice_get, is_ok, is_err, IsErrAnd, IfErr}
+use Rattle.std.proofs.Common.{◌≡◌, ℕ, List, [], ◌∷◌, ◌++◌, map, refl, sym, ap, ◌∙◌, cond, true, false, append_assoc, append-nil, subst, not, position, take, drop, get_or, length, ◌<◌, ◌+◌, Result, Ok, Err, slice_get, is_ok, is_err, IsErrAnd, IfErr}
 use Rattle.std.specs.Prelude.{Bool, ◌==◌, ◌||◌, if◌then◌else◌, Option, None, Some}
 use Rattle.std.specs.List.{list_any, find, flat_map}
 use Rattle.std.specs.Str.{bytes_eq}
-use Rattle.std.proofs.lemmas.List.{map-append}
+use Rattle.std.proofs.lemmas.List.{map-append, take_more}
+use Rattle.std.proofs.lemmas.Grind.{flat_map-append}
 use Rattle.std.proofs.lemmas.List.Folds.{list_any-append}
 use Rattle.trio_types.specs.declared.spec.Item.{Item}
 use Rattle.trio_types.specs.World.{World}
@@ -153,3 +154,12 @@ passed_on Q (Err g) f same q = subst Q (sym same) q
 pub passed_answer : {A : Type 0} (Q : Result A HistoryFault → Type 0) (r : Result A HistoryFault) (f : HistoryFault) → IsErrAnd r (λ g. g ≡ f) → Q (Err f) → Q r
 passed_answer Q (Ok x) f same q = absurd same
 passed_answer Q (Err g) f same q = subst (λ h. Q (Err h)) (sym same) q
+
+-- the values of one item more
+pub gather_more : (rows : List Row) (items : List Item) (i : ℕ) (item : Item) (name : List ℕ) (given now : List (Option ℕ)) → i < length items →
+    item ≡ get_or items i item → name ≡ item.name → given ≡ flat_map (cells_of_item rows) (take i items) →
+    now ≡ given ++ cells_of_row (find (λ row. bytes_eq row.name name) rows) → now ≡ flat_map (cells_of_item rows) (take (i + 1) items)
+gather_more rows items i item name given now less is named before more =
+    more ∙ ap₂ ◌++◌ before (ap (λ n. cells_of_row (find (λ row. bytes_eq row.name n) rows)) (named ∙ ap (λ (it : Item). it.name) is) ∙ sym (append-nil _))
+    ∙ sym (flat_map-append (cells_of_item rows) (take i items) (get_or items i item ∷ []))
+    ∙ ap (flat_map (cells_of_item rows)) (sym (take_more items i item less))

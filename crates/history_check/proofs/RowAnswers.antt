@@ -170,3 +170,8 @@ refused_fault world text (fault.TwiceRow line) only = λ table says. let e : Ok 
 refused_fault world text (fault.Length line) only = λ table says. let e : Ok (map Some table) ≡ Err (fault.Length line) = only (Ok (map Some table)) says in cc
 refused_fault world text (fault.Value line column) only = λ table says. let e : Ok (map Some table) ≡ Err (fault.Value line column) = only (Ok (map Some table)) says in cc
 refused_fault world text (fault.MissingRow number) only = λ table says. let e : Ok (map Some table) ≡ Err (fault.MissingRow number) = only (Ok (map Some table)) says in cc
+
+pub known_fits : (Q : List ℕ → Type 0) (given : List (Option ℕ)) (r : Result (List ℕ) HistFault) → IfOk r (λ table. given ≡ map Some table) →
+    ((table : List ℕ) → given ≡ map Some table → Q table) → IfOk r Q
+known_fits Q given (Ok table) is fits = fits table is
+known_fits Q given (Err f) is fits = tt

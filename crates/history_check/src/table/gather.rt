@@ -4,7 +4,7 @@ ghost use Rattle.std.specs.Prelude.{◌≡◌, not, IfOk, OnOk, position, map, f
 ghost use Rattle.std.specs.Option.{option_copied, option_and_then};
 ghost use Rattle.std.specs.List.{list_any, flat_map};
 ghost use Rattle.std.specs.Str.{bytes_eq};
-ghost use Rattle.history_check.specs.History.{index_of, cell_of};
+ghost use Rattle.history_check.specs.History.{index_of, cell_of, cells_of_row};
 ghost use Rattle.history_check.specs.RowReading.{has_row, cells_of_item};
 
 use crate::table::{Entry, Given, Row};
@@ -34,11 +34,19 @@ pub fn gathered(alloc: Global, items: &[Item], rows: &[Row]) -> Result<Given, Al
 {
     let mut given = Vec::new(alloc);
     for item in items {
-        if let Some(row) = row_named(rows, item.name.as_str()) {
-            add_cells(&mut given, row.entries.as_slice())?;
-        }
+        add_row(&mut given, rows, item.name.as_str())?;
     }
     Ok(List::from_vec(given))
+}
+
+/// Appends what the row of this name gives, where there is one.
+fn add_row(given: &mut Vec<Option<u16>>, rows: &[Row], name: &str) -> Result<(), AllocError>
+    ensures { OnOk result (given.new.items ≡ given.old.items ++ cells_of_row (find (λ row. bytes_eq row.name name.now) rows.now)) }
+{
+    match row_named(rows, name) {
+        Some(row) => add_cells(given, row.entries.as_slice()),
+        None => Ok(()),
+    }
 }
 
 /// The row of this name.

@@ -3,7 +3,7 @@ use Rattle.trio_types.specs.Verdict.{world_of}
 use Rattle.history_check.specs.declared.table.Row.{Row}
 use Rattle.history_check.specs.Rows.{row_of}
 use Rattle.history_check.specs.History.{row_fault, lines_fault}
-use Rattle.history_check.specs.RowReading.{lines_by, has_row, IsFault}
+use Rattle.history_check.specs.RowReading.{AreRows, lines_by, has_row, IsFault}
 use Rattle.history_check.proofs.LineRuns.{is_run}
 use Rattle.history_check.proofs.LineSteps.{Behind, behind_start, rows_end, rows_more, rows_fault, pushed, passed_on}
 use Rattle.history_check.proofs.table.lines.rows.Goals as goal
@@ -45,7 +45,10 @@ loop-first-preserved c =
       omega (arith, c.split_at.ensures.back_len, c.split_at-in-Some.ensures.back_len, c.loop-first.invariant.1))
 
 pub returns-clause-rows : goal.returns-clause-rows
-returns-clause-rows c = ?
+returns-clause-rows c =
+    let all = lines_by c.args.tokens.now c.args.lexemes.now in
+    subst (AreRows all) (sym c.from_vec.ensures)
+    (rows_end (world_of c.args.spec.now) all c.loop-first.rest.now c.loop-first.sayings.now c.loop-first.found.items c.loop-first.invariant.0 c.in_default.ensures.value).0
 
 pub returns-clause-sound : goal.returns-clause-sound
 returns-clause-sound c =
