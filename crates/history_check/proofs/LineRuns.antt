@@ -1,5 +1,5 @@
 -- Neighbouring tokens of one line are a line in front of those of the tokens behind them.
-use Rattle.std.proofs.Common.{◌≡◌, ℕ, suc, ◌+◌, ◌-◌, ◌≤◌, ◌<◌, List, [], ◌∷◌, ◌++◌, length, take, drop, refl, sym, ap, ◌∙◌, cond, true, false, Bool, ◌==◌, arith, add-one, if◌then◌else◌, take_while, subst, ap₂, inl, inr, slice_get, Some}
+use Rattle.std.proofs.Common.{◌≡◌, ℕ, suc, ◌≤◌, ◌<◌, List, [], ◌∷◌, length, take, drop, refl, sym, ap, ◌∙◌, cond, true, false, Bool, ◌==◌, arith, if◌then◌else◌, take_while, subst, ap₂, inl, inr, slice_get, Some}
 use Rattle.std.proofs.lemmas.Bool.{cases_Bool}
 use Rattle.std.proofs.lemmas.List.{length-take}
 use Rattle.std.specs.List.{prefix_len}
@@ -74,10 +74,10 @@ run_joins : (m n : ℕ) (u : Token) (us : List Token) (x y : Lexeme) (ys : List 
     Joins m x n (u ∷ us) (y ∷ ys) (run n (u ∷ us))
 run_joins m n u us x y ys e here there =
     elim (cases_Bool (u.line == n)) [
-      inl same ↦ same_line m n x (u ∷ us) (y ∷ ys) (run n (u ∷ us)) e (here (eq_from u.line n same))
-    | inr differs ↦
-        subst (Joins m x n (u ∷ us) (y ∷ ys)) (sym (run_other n u us differs))
-        (other_line m n u.line x (u ∷ us) (y ∷ ys) (run u.line (u ∷ us)) e differs there)
+      | inl same ↦ same_line m n x (u ∷ us) (y ∷ ys) (run n (u ∷ us)) e (here (eq_from u.line n same))
+      | inr differs ↦
+          subst (Joins m x n (u ∷ us) (y ∷ ys)) (sym (run_other n u us differs))
+          (other_line m n u.line x (u ∷ us) (y ∷ ys) (run u.line (u ∷ us)) e differs there)
     ]
 
 joins_first : (n : ℕ) (t : Token) (ts : List Token) (x : Lexeme) (xs : List Lexeme) (k : ℕ) → Joins t.line x n ts xs k →
@@ -94,7 +94,7 @@ run_splits n t (u ∷ us) x (y ∷ ys) whole e =
     let rest : length ys ≡ length us = omega arith in
     subst (Splits n (t ∷ u ∷ us) (x ∷ y ∷ ys)) (sym (run_first n t (u ∷ us) e))
     (joins_first n t (u ∷ us) x (y ∷ ys) (run n (u ∷ us))
-      (run_joins t.line n u us x y ys e (λ f. run_splits n u us y ys rest f) (run_splits u.line u us y ys rest refl)))
+    (run_joins t.line n u us x y ys e (λ f. run_splits n u us y ys rest f) (run_splits u.line u us y ys rest refl)))
 run_splits n t [] x (y ∷ ys) whole e = absurd (omega arith)
 run_splits n t (u ∷ us) x [] whole e = absurd (omega arith)
 
@@ -104,15 +104,15 @@ run_within n ts =
     omega (arith, length-take (prefix_len (λ (t : Token). t.line == n) ts) ts)
 
 -- the tokens at the front that are on the first one's line
-pub record IsRun (rest : List Token) (sayings : List Lexeme) (first : Token) (count : ℕ) : Type 0 where
+pub record IsRun (rest : List Token) (lexemes : List Lexeme) (first : Token) (count : ℕ) : Type 0 where
   pub some : 0 < count
   pub within : count ≤ length rest
-  pub split : lines_by rest sayings ≡ record { number = first.line; tokens = take count sayings } ∷ lines_by (drop count rest) (drop count sayings)
+  pub split : lines_by rest lexemes ≡ record { number = first.line; tokens = take count lexemes } ∷ lines_by (drop count rest) (drop count lexemes)
 
-pub is_run : (rest : List Token) (sayings : List Lexeme) (first : Token) (count : ℕ) → length sayings ≡ length rest → Some first ≡ slice_get rest 0 →
-    count ≡ length (take_while (λ t. t.line == first.line) rest) → IsRun rest sayings first count
+pub is_run : (rest : List Token) (lexemes : List Lexeme) (first : Token) (count : ℕ) → length lexemes ≡ length rest → Some first ≡ slice_get rest 0 →
+    count ≡ length (take_while (λ t. t.line == first.line) rest) → IsRun rest lexemes first count
 unfolding Splits
-is_run [] sayings first count whole is counts = cc
+is_run [] lexemes first count whole is counts = cc
 is_run (t ∷ ts) [] first count whole is counts = absurd (omega arith)
 is_run (t ∷ ts) (x ∷ xs) first count whole is counts =
     let same : first ≡ t = cc in
@@ -130,7 +130,7 @@ pub lines_by_text : (text : List ℕ) (tokens : List Token) → lines_by tokens 
 lines_by_text text [] = refl
 lines_by_text text (token ∷ tokens) =
     ap (with_lexeme token.line (lexeme_of text token)) (lines_by_text text tokens) ∙ one_more (lines_of text tokens)
-    where
-      one_more : (lines : List Line) → with_lexeme token.line (lexeme_of text token) lines ≡ with_token text token lines
-      one_more [] = refl
-      one_more (line ∷ lines) = refl
+  where
+    one_more : (lines : List Line) → with_lexeme token.line (lexeme_of text token) lines ≡ with_token text token lines
+    one_more [] = refl
+    one_more (line ∷ lines) = refl

@@ -1,11 +1,10 @@
 -- Lines one after another: what is known of them behind some sound ones.
-use Rattle.std.proofs.Common.{◌≡◌, ℕ, List, [], ◌∷◌, ◌++◌, map, refl, sym, ap, ◌∙◌, cond, true, false, append_assoc, append-nil, subst, not, position, take, drop, get_or, length, ◌<◌, ◌+◌, Result, Ok, Err, slice_get, is_ok, is_err, IsErrAnd, IfErr}
-use Rattle.std.specs.Prelude.{Bool, ◌==◌, ◌||◌, if◌then◌else◌, Option, None, Some}
+use Rattle.std.proofs.Common.{◌≡◌, ℕ, List, [], ◌∷◌, ◌++◌, refl, sym, ap, ◌∙◌, cond, true, false, append_assoc, append-nil, subst, not, position, take, drop, get_or, length, ◌<◌, ◌+◌, Result, Ok, Err, slice_get, is_ok, is_err, IsErrAnd, IfErr}
+use Rattle.std.specs.Prelude.{Bool, ◌||◌, if◌then◌else◌, Option, None, Some}
 use Rattle.std.specs.List.{list_any, find, flat_map}
 use Rattle.std.specs.Str.{bytes_eq}
 use Rattle.std.proofs.lemmas.List.{map-append, take_more}
 use Rattle.std.proofs.lemmas.Grind.{flat_map-append}
-use Rattle.std.proofs.lemmas.List.Folds.{list_any-append}
 use Rattle.trio_types.specs.declared.spec.Item.{Item}
 use Rattle.trio_types.specs.World.{World}
 use Rattle.history_check.specs.declared.table.Row.{Row}
@@ -14,7 +13,7 @@ use Rattle.history_check.specs.declared.table.HistoryFault.TheVariants as fault
 use Rattle.trio_text.specs.declared.lexeme.Lexeme.{Lexeme}
 use Rattle.std.proofs.Math.Path.{fun_ext, ap₂}
 use Rattle.history_check.specs.Rows.{Line, row_of}
-use Rattle.history_check.specs.History.{is_row, row_is_named, row_fault, line_fault, lines_fault, first_of, cells_of_row, cells_of_line, missing_row, given_of, if_sound, if_whole, history_of}
+use Rattle.history_check.specs.History.{is_row, row_is_named, row_fault, line_fault, lines_fault, first_of, cells_of_row, cells_of_line, if_sound, history_of}
 use Rattle.history_check.specs.RowReading.{AreRows, has_row, cells_of_item, IsFault, joined_of, lines_by}
 use Rattle.trio_text.specs.declared.token.Token.{Token}
 use Rattle.history_check.proofs.LineRuns.{IsRun}
@@ -109,7 +108,7 @@ pub history_is : (world : World) (lines : List Line) (rows : List Row) → AreRo
 history_is world lines rows e none =
     ap (if_sound world lines) none
     ∙ ap₂ (λ given number. whole given number) (ap (λ f. flat_map f world.items) (fun_ext (λ item. cells_is lines rows e item.name)))
-      (ap (λ p. position p world.items) (fun_ext (λ item. ap not (has_row_is lines rows e item.name))))
+    (ap (λ p. position p world.items) (fun_ext (λ item. ap not (has_row_is lines rows e item.name))))
 
 pub joined_ok : (world : World) (items : List Item) (rows : List Row) (given : List (Option ℕ)) → items ≡ world.items →
     position (λ item. not (has_row rows item.name)) items ≡ None → given ≡ flat_map (cells_of_item rows) items → joined_of world rows ≡ Ok given
@@ -117,29 +116,29 @@ joined_ok world items rows given same none is =
     ap₂ (λ g n. whole g n)
     (ap (flat_map (cells_of_item rows)) (sym same) ∙ sym is) (ap (position (λ item. not (has_row rows item.name))) (sym same) ∙ none)
 
-pub rows_more : (world : World) (all : List Line) (rest after : List Token) (sayings here behind : List Lexeme) (first : Token) (count : ℕ) (row : Row) (found : List Row) →
-    Behind world all (lines_by rest sayings) found → IsRun rest sayings first count → here ≡ take count sayings → after ≡ drop count rest → behind ≡ drop count sayings →
+pub rows_more : (world : World) (all : List Line) (rest after : List Token) (lexemes here behind : List Lexeme) (first : Token) (count : ℕ) (row : Row) (found : List Row) →
+    Behind world all (lines_by rest lexemes) found → IsRun rest lexemes first count → here ≡ take count lexemes → after ≡ drop count rest → behind ≡ drop count lexemes →
     row_of here ≡ Some row → row_fault world (has_row found) first.line (row_of here) ≡ None →
     Behind world all (lines_by after behind) (found ++ row ∷ [])
-rows_more world all rest after sayings here behind first count row found b is_run is_here is_after is_behind is sound =
+rows_more world all rest after lexemes here behind first count row found b is_run is_here is_after is_behind is sound =
     let lines : List Line = lines_by after behind in
-    let split : lines_by rest sayings ≡ record { number = first.line; tokens = here } ∷ lines =
-        is_run.split ∙ ap₂ (λ tokens more. record { number = first.line; tokens = tokens } ∷ more) (sym is_here) (ap₂ lines_by (sym is_after) (sym is_behind)) in
+    let split : lines_by rest lexemes ≡ record { number = first.line; tokens = here } ∷ lines =
+    is_run.split ∙ ap₂ (λ tokens more. record { number = first.line; tokens = tokens } ∷ more) (sym is_here) (ap₂ lines_by (sym is_after) (sym is_behind)) in
     behind_more world all lines found first.line here row (subst (λ left. Behind world all left found) split b) is sound
 
-pub rows_fault : (world : World) (all : List Line) (rest : List Token) (sayings here : List Lexeme) (first : Token) (count : ℕ) (found : List Row) (f : HistoryFault) →
-    Behind world all (lines_by rest sayings) found → IsRun rest sayings first count → here ≡ take count sayings →
+pub rows_fault : (world : World) (all : List Line) (rest : List Token) (lexemes here : List Lexeme) (first : Token) (count : ℕ) (found : List Row) (f : HistoryFault) →
+    Behind world all (lines_by rest lexemes) found → IsRun rest lexemes first count → here ≡ take count lexemes →
     IsFault (row_fault world (has_row found) first.line (row_of here)) f → IsFault (lines_fault world [] all) f
-rows_fault world all rest sayings here first count found f b is_run is_here is =
-    let lines : List Line = lines_by (drop count rest) (drop count sayings) in
-    let split : lines_by rest sayings ≡ record { number = first.line; tokens = here } ∷ lines =
-        is_run.split ∙ ap (λ tokens. record { number = first.line; tokens = tokens } ∷ lines) (sym is_here) in
+rows_fault world all rest lexemes here first count found f b is_run is_here is =
+    let lines : List Line = lines_by (drop count rest) (drop count lexemes) in
+    let split : lines_by rest lexemes ≡ record { number = first.line; tokens = here } ∷ lines =
+    is_run.split ∙ ap (λ tokens. record { number = first.line; tokens = tokens } ∷ lines) (sym is_here) in
     behind_fault world all lines found first.line here f (subst (λ left. Behind world all left found) split b) is
 
-pub rows_end : (world : World) (all : List Line) (rest : List Token) (sayings : List Lexeme) (rows : List Row) →
-    Behind world all (lines_by rest sayings) rows → None ≡ slice_get rest 0 → AreRows all rows × (lines_fault world [] all ≡ None)
-rows_end world all [] sayings rows b none = behind_end world all rows b
-rows_end world all (token ∷ rest) sayings rows b none = cc
+pub rows_end : (world : World) (all : List Line) (rest : List Token) (lexemes : List Lexeme) (rows : List Row) →
+    Behind world all (lines_by rest lexemes) rows → None ≡ slice_get rest 0 → AreRows all rows × (lines_fault world [] all ≡ None)
+rows_end world all [] lexemes rows b none = behind_end world all rows b
+rows_end world all (token ∷ rest) lexemes rows b none = cc
 
 -- an element is pushed where the push does not fail
 pub pushed : {A E : Type 0} (r : Result (Unit {0}) E) (items more before : List A) → items ≡ (if is_ok r then more else before) → is_err r ≡ false → items ≡ more

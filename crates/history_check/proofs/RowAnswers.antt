@@ -29,7 +29,7 @@ NoLex (Some f) = is_lex f ≡ false
 
 no_lex_choice : (unknown twice long : Bool) (number : ℕ) (column : Option ℕ) →
     NoLex (if unknown then Some (fault.UnknownRow number) else (if twice then Some (fault.TwiceRow number)
-      else (if long then Some (fault.Length number) else option_map (λ n. fault.Value number (n + 1)) column)))
+    else (if long then Some (fault.Length number) else option_map (λ n. fault.Value number (n + 1)) column)))
 unfolding NoLex is_lex
 no_lex_choice true twice long number column = refl
 no_lex_choice false true long number column = refl
@@ -76,45 +76,45 @@ pub fault_answered : (world : World) (text : List ℕ) (tokens read : List Token
     read ≡ tokens → lexemes ≡ lexemes_of text tokens → IsFault (lines_fault world [] (lines_by read lexemes)) f → Answered world text tokens (Err f)
 unfolding Answered
 fault_answered world text tokens read lexemes f are is = at_lines f
-    where
-      same : lines_by read lexemes ≡ lines_of text tokens
-      same = ap₂ lines_by are is ∙ lines_by_text text tokens
+  where
+    same : lines_by read lexemes ≡ lines_of text tokens
+    same = ap₂ lines_by are is ∙ lines_by_text text tokens
 
-      some : (g : HistoryFault) → lines_fault world [] (lines_by read lexemes) ≡ Some g → history_of world (lines_of text tokens) ≡ Err g
-      some g e = ap (if_sound world (lines_of text tokens)) (ap (lines_fault world []) (sym same) ∙ e)
+    some : (g : HistoryFault) → lines_fault world [] (lines_by read lexemes) ≡ Some g → history_of world (lines_of text tokens) ≡ Err g
+    some g e = ap (if_sound world (lines_of text tokens)) (ap (lines_fault world []) (sym same) ∙ e)
 
-      at_lines : (g : HistoryFault) → IsFault (lines_fault world [] (lines_by read lexemes)) g → Answered world text tokens (Err g)
-      at_lines fault.Memory e = tt
-      at_lines (fault.Lex place) e = some (fault.Lex place) e
-      at_lines (fault.Syntax line) e = some (fault.Syntax line) e
-      at_lines (fault.UnknownRow line) e = some (fault.UnknownRow line) e
-      at_lines (fault.TwiceRow line) e = some (fault.TwiceRow line) e
-      at_lines (fault.Length line) e = some (fault.Length line) e
-      at_lines (fault.Value line column) e = some (fault.Value line column) e
-      at_lines (fault.MissingRow number) e = some (fault.MissingRow number) e
+    at_lines : (g : HistoryFault) → IsFault (lines_fault world [] (lines_by read lexemes)) g → Answered world text tokens (Err g)
+    at_lines fault.Memory e = tt
+    at_lines (fault.Lex place) e = some (fault.Lex place) e
+    at_lines (fault.Syntax line) e = some (fault.Syntax line) e
+    at_lines (fault.UnknownRow line) e = some (fault.UnknownRow line) e
+    at_lines (fault.TwiceRow line) e = some (fault.TwiceRow line) e
+    at_lines (fault.Length line) e = some (fault.Length line) e
+    at_lines (fault.Value line column) e = some (fault.Value line column) e
+    at_lines (fault.MissingRow number) e = some (fault.MissingRow number) e
 
 pub joined_answered : (world : World) (text : List ℕ) (tokens read : List Token) (lexemes : List Lexeme) (rows given : List Row) (answer : Result (List (Option ℕ)) HistoryFault) →
     read ≡ tokens → lexemes ≡ lexemes_of text tokens → given ≡ rows → AreRows (lines_by read lexemes) rows →
     lines_fault world [] (lines_by read lexemes) ≡ None → IsJoined world given answer → Answered world text tokens answer
 unfolding Answered
 joined_answered world text tokens read lexemes rows given answer lexed is joins are none = at_rows answer
-    where
-      same : lines_by read lexemes ≡ lines_of text tokens
-      same = ap₂ lines_by lexed is ∙ lines_by_text text tokens
+  where
+    same : lines_by read lexemes ≡ lines_of text tokens
+    same = ap₂ lines_by lexed is ∙ lines_by_text text tokens
 
-      some : (a : Result (List (Option ℕ)) HistoryFault) → joined_of world given ≡ a → history_of world (lines_of text tokens) ≡ a
-      some a e = ap (history_of world) (sym same) ∙ history_is world (lines_by read lexemes) rows are none ∙ ap (joined_of world) (sym joins) ∙ e
+    some : (a : Result (List (Option ℕ)) HistoryFault) → joined_of world given ≡ a → history_of world (lines_of text tokens) ≡ a
+    some a e = ap (history_of world) (sym same) ∙ history_is world (lines_by read lexemes) rows are none ∙ ap (joined_of world) (sym joins) ∙ e
 
-      at_rows : (a : Result (List (Option ℕ)) HistoryFault) → IsJoined world given a → Answered world text tokens a
-      at_rows (Ok cells) e = some (Ok cells) e
-      at_rows (Err fault.Memory) e = tt
-      at_rows (Err (fault.Lex place)) e = some (Err (fault.Lex place)) e
-      at_rows (Err (fault.Syntax line)) e = some (Err (fault.Syntax line)) e
-      at_rows (Err (fault.UnknownRow line)) e = some (Err (fault.UnknownRow line)) e
-      at_rows (Err (fault.TwiceRow line)) e = some (Err (fault.TwiceRow line)) e
-      at_rows (Err (fault.Length line)) e = some (Err (fault.Length line)) e
-      at_rows (Err (fault.Value line column)) e = some (Err (fault.Value line column)) e
-      at_rows (Err (fault.MissingRow number)) e = some (Err (fault.MissingRow number)) e
+    at_rows : (a : Result (List (Option ℕ)) HistoryFault) → IsJoined world given a → Answered world text tokens a
+    at_rows (Ok cells) e = some (Ok cells) e
+    at_rows (Err fault.Memory) e = tt
+    at_rows (Err (fault.Lex place)) e = some (Err (fault.Lex place)) e
+    at_rows (Err (fault.Syntax line)) e = some (Err (fault.Syntax line)) e
+    at_rows (Err (fault.UnknownRow line)) e = some (Err (fault.UnknownRow line)) e
+    at_rows (Err (fault.TwiceRow line)) e = some (Err (fault.TwiceRow line)) e
+    at_rows (Err (fault.Length line)) e = some (Err (fault.Length line)) e
+    at_rows (Err (fault.Value line column)) e = some (Err (fault.Value line column)) e
+    at_rows (Err (fault.MissingRow number)) e = some (Err (fault.MissingRow number)) e
 
 pub exact_answer : (world : World) (text : List ℕ) (tokens : List Token) (answer : Result (List (Option ℕ)) HistoryFault) → IsTokens text tokens →
     Answered world text tokens answer → IsHistory world text answer
@@ -175,3 +175,19 @@ pub known_fits : (Q : List ℕ → Type 0) (given : List (Option ℕ)) (r : Resu
     ((table : List ℕ) → given ≡ map Some table → Q table) → IfOk r Q
 known_fits Q given (Ok table) is fits = fits table is
 known_fits Q given (Err f) is fits = tt
+
+all_some : (xs ys : List ℕ) → map Some xs ≡ map Some ys → xs ≡ ys
+all_some [] [] e = refl
+all_some [] (y ∷ ys) e = cc
+all_some (x ∷ xs) [] e = cc
+all_some (x ∷ xs) (y ∷ ys) e =
+    let here : x ≡ y = cc in
+    let more : map Some xs ≡ map Some ys = cc in
+    ap₂ ◌∷◌ here (all_some xs ys more)
+
+pub one_history : ((text : List ℕ) (tokens others : List Token) → IsTokens text tokens → IsTokens text others → tokens ≡ others) →
+    (world : World) (text table other : List ℕ) → IsTableText world text table → IsTableText world text other → table ≡ other
+one_history one world text table other says others =
+    let same : Ok (map Some table) ≡ Ok (map Some other) =
+    same_answer world text others.tokens (λ tokens lexed. one text tokens others.tokens lexed others.lexed) (Ok (map Some other)) (Ok (map Some table)) others.answered says in
+    all_some table other (let e : map Some table ≡ map Some other = cc in e)

@@ -7,9 +7,8 @@ use Rattle.trio_text.specs.declared.lexeme.Lexeme.{Lexeme}
 use Rattle.trio_text.specs.declared.lexeme.Lexeme.TheVariants as lexeme
 use Rattle.history_check.specs.declared.table.Entry.{Entry}
 use Rattle.history_check.specs.declared.table.Entry.TheVariants as entry
-use Rattle.history_check.specs.declared.table.Row.{Row}
-use Rattle.history_check.specs.Rows.{before_entries, entries_of, row_of}
-use Rattle.history_check.specs.RowReading.{single_of, opposite_of, head_of}
+use Rattle.history_check.specs.Rows.{before_entries, entries_of}
+use Rattle.history_check.specs.RowReading.{single_of, opposite_of}
 
 pub rest_is : {A : Type 0} (n : ℕ) (xs : List A) → take (length xs - n) (drop n xs) ≡ drop n xs
 rest_is n xs = take_all (length xs - n) (drop n xs) (omega (arith, length-drop n xs))

@@ -1,12 +1,11 @@
 -- A history in which every value is known is a table of a well formed specification.
-use Rattle.std.proofs.Common.{◌≡◌, ℕ, zero, suc, ◌+◌, ◌<◌, ◌≤◌, List, [], ◌∷◌, ◌++◌, length, map, take, drop, refl, sym, ap, ◌∙◌, subst, true, false, Bool, not, cond, ◌==◌, ◌&&◌, ◌||◌, nat_lt, Option, None, Some, Result, Ok, Err, slice_get, position, find, zip, flat_map, if◌then◌else◌, option_map, option_and_then, is_none, arith, IsTrue, add-one}
+use Rattle.std.proofs.Common.{◌≡◌, ℕ, zero, suc, ◌+◌, ◌<◌, ◌≤◌, List, [], ◌∷◌, ◌++◌, length, map, refl, sym, ap, ◌∙◌, true, false, Bool, not, cond, ◌==◌, ◌&&◌, ◌||◌, nat_lt, Option, None, Some, Ok, slice_get, position, find, zip, flat_map, if◌then◌else◌, option_map, option_and_then, is_none, arith}
 use Rattle.std.proofs.Math.Path.{ap₂}
-use Rattle.std.specs.List.{list_all, list_any, range_with_len, enumerate_from, position_from, position_or_len}
+use Rattle.std.specs.List.{list_all, list_any, enumerate_from, position_from}
 use Rattle.std.proofs.lemmas.List.{length-map, length-append, append-nil}
 use Rattle.std.proofs.lemmas.List.FromFn.{length-range_with_len}
 use Rattle.std.proofs.lemmas.List.Folds.{list_all-append, list_all-map}
 use Rattle.std.proofs.lemmas.Iterator.Adapters.{position_from-zero}
-use Rattle.std.proofs.lemmas.Bool.{cases_Bool}
 use Rattle.std.proofs.lemmas.Bool.Decides.{nat_tests}
 use Rattle.trio_types.specs.declared.spec.DomainKind.{DomainKind}
 use Rattle.trio_types.specs.declared.spec.DomainKind.TheVariants as kind
@@ -15,7 +14,7 @@ use Rattle.trio_types.specs.declared.spec.Item.{Item}
 use Rattle.trio_types.specs.declared.spec.Spec.{Spec}
 use Rattle.trio_types.specs.World.{World, size_of, kind_size}
 use Rattle.trio_types.specs.Cells.{Cell, IsTable, instants_of, tuples, cells_of_item, cells_of, cell_size}
-use Rattle.trio_types.specs.WellFormed.{item_fits, is_bool_alone, is_well_formed}
+use Rattle.trio_types.specs.WellFormed.{item_fits, is_bool_alone}
 use Rattle.trio_types.specs.Verdict.{world_of}
 use Rattle.history_check.specs.declared.table.Entry.{Entry}
 use Rattle.history_check.specs.declared.table.Entry.TheVariants as entry
@@ -23,7 +22,7 @@ use Rattle.history_check.specs.declared.table.Row.{Row}
 use Rattle.history_check.specs.declared.table.HistoryFault.{HistoryFault}
 use Rattle.history_check.specs.declared.table.HistoryFault.TheVariants as fault
 use Rattle.history_check.specs.Rows.{Line, row_of, lines_of}
-use Rattle.history_check.specs.History.{index_of, cell_of, is_item, is_row, row_is_named, row_fault, line_fault, lines_fault, first_of, cells_of_row, cells_of_line, missing_row, given_of, if_sound, if_whole, history_of}
+use Rattle.history_check.specs.History.{cell_of, is_item, is_row, row_fault, line_fault, lines_fault, first_of, cells_of_row, cells_of_line, missing_row, given_of, if_sound, if_whole}
 use Rattle.history_check.specs.Answers.{IsTableText}
 
 -- a value that is known is an index in bool
@@ -75,16 +74,16 @@ row_sized world is_taken number None sound = cc
 row_sized world is_taken number (Some row) sound =
     length-map row.entries (λ v. option_and_then (λ cell. cell) (cell_of v))
     ∙ eq_from (length row.entries) world.instants
-      (at_row (not (is_item world row.name)) (is_taken row.name) (length row.entries == world.instants)
-        (option_map (λ column. fault.Value number (column + 1)) (position (λ v. is_none (cell_of v)) row.entries)) sound)
-    where
-      at_row : (unknown twice whole : Bool) (outside : Option HistoryFault) →
-          (if unknown then Some (fault.UnknownRow number) else (if twice then Some (fault.TwiceRow number) else (if not whole then Some (fault.Length number) else outside))) ≡ None →
-          whole ≡ true
-      at_row true twice whole outside e = cc
-      at_row false true whole outside e = cc
-      at_row false false true outside e = refl
-      at_row false false false outside e = cc
+    (at_row (not (is_item world row.name)) (is_taken row.name) (length row.entries == world.instants)
+    (option_map (λ column. fault.Value number (column + 1)) (position (λ v. is_none (cell_of v)) row.entries)) sound)
+  where
+    at_row : (unknown twice whole : Bool) (outside : Option HistoryFault) →
+        (if unknown then Some (fault.UnknownRow number) else (if twice then Some (fault.TwiceRow number) else (if not whole then Some (fault.Length number) else outside))) ≡ None →
+        whole ≡ true
+    at_row true twice whole outside e = cc
+    at_row false true whole outside e = cc
+    at_row false false true outside e = refl
+    at_row false false false outside e = cc
 
 first_none : (f g : Option HistoryFault) → first_of f g ≡ None → (f ≡ None) × (g ≡ None)
 first_none None g e = (refl, e)
@@ -97,22 +96,22 @@ found_sized world earlier [] name sound some = cc
 found_sized world earlier (line ∷ lines) name sound some =
     let each : (line_fault world earlier line ≡ None) × (lines_fault world (earlier ++ line ∷ []) lines ≡ None) = first_none _ _ sound in
     let more : list_any (is_row name) lines ≡ true → length (cells_of_line (find (is_row name) lines)) ≡ world.instants =
-        λ some. found_sized world (earlier ++ line ∷ []) lines name each.1 some in
+    λ some. found_sized world (earlier ++ line ∷ []) lines name each.1 some in
     at_line (is_row name line) (find (is_row name) lines) (list_any (is_row name) lines) (row_sized world _ line.number (row_of line.tokens) each.0) more some
-    where
-      at_line : (b : Bool) (rest : Option Line) (others : Bool) → length (cells_of_row (row_of line.tokens)) ≡ world.instants →
-          (others ≡ true → length (cells_of_line rest) ≡ world.instants) → (b || others) ≡ true →
-          length (cells_of_line (cond b (Some line) rest)) ≡ world.instants
-      at_line true rest others here more some = here
-      at_line false rest others here more some = more some
+  where
+    at_line : (b : Bool) (rest : Option Line) (others : Bool) → length (cells_of_row (row_of line.tokens)) ≡ world.instants →
+        (others ≡ true → length (cells_of_line rest) ≡ world.instants) → (b || others) ≡ true →
+        length (cells_of_line (cond b (Some line) rest)) ≡ world.instants
+    at_line true rest others here more some = here
+    at_line false rest others here more some = more some
 
 no_missing : (test : Item → Bool) (n : ℕ) (item : Item) (items : List Item) → position_from test n (item ∷ items) ≡ None →
     (test item ≡ false) × (position_from test (n + 1) items ≡ None)
 no_missing test n item items none = at_item (test item) (position_from test (n + 1) items) none
-    where
-      at_item : (b : Bool) (o : Option ℕ) → cond b (Some n) o ≡ None → (b ≡ false) × (o ≡ None)
-      at_item true o none = cc
-      at_item false o none = (refl, none)
+  where
+    at_item : (b : Bool) (o : Option ℕ) → cond b (Some n) o ≡ None → (b ≡ false) × (o ≡ None)
+    at_item true o none = cc
+    at_item false o none = (refl, none)
 
 both : (a b : Bool) → (a && b) ≡ true → (a ≡ true) × (b ≡ true)
 both true b e = (refl, e)
@@ -150,7 +149,7 @@ all_sized world lines n (item ∷ items) sound fits none =
     let found = no_missing (λ item. not (list_any (is_row item.name) lines)) n item items none in
     length-append (cells_of_line (find (is_row item.name) lines)) _
     ∙ ap₂ ◌+◌ (found_sized world [] lines item.name sound (not_false _ found.0) ∙ sym (cells_sized world n item each.0))
-      (all_sized world lines (n + 1) items sound each.1 found.1)
+    (all_sized world lines (n + 1) items sound each.1 found.1)
     ∙ sym (length-append (cells_of_item world n item) (flat_map (λ p. cells_of_item world p.0 p.1) (enumerate_from (n + 1) items)))
 
 -- every cell has two values
@@ -162,9 +161,9 @@ fits_at (item ∷ items) (suc n) fits less = fits_at items n (both (item_fits it
 bool_size : (domains : List Domain) → is_bool_alone domains ≡ true → size_of domains 0 ≡ 2
 bool_size [] e = cc
 bool_size (domain ∷ []) e = kind_two domain.kind
-    where
-      kind_two : (k : DomainKind) → kind_size k ≡ 2
-      kind_two kind.Bool = refl
+  where
+    kind_two : (k : DomainKind) → kind_size k ≡ 2
+    kind_two kind.Bool = refl
 bool_size (domain ∷ other ∷ domains) e = cc
 
 two_values : (world : World) (cell : Cell) → is_bool_alone world.domains ≡ true → list_all item_fits world.items ≡ true → cell.item < length world.items →
@@ -194,10 +193,10 @@ cells_have_two world n (item ∷ items) alone whole fits within =
     let here : n < length world.items = omega arith in
     list_all-append (has_two world) (cells_of_item world n item) _
     ∙ ap₂ ◌&&◌
-      (ap (list_all (has_two world)) (cells_are world n item each.0)
-        ∙ list_all-map (has_two world) (λ i. record { item = n; args = []; instant = i }) (instants_of world)
-        ∙ all_true _ (λ i. eq_true _ 2 (two_values world (record { item = n; args = []; instant = i }) alone whole here)) (instants_of world))
-      (cells_have_two world (n + 1) items alone whole each.1 (omega arith))
+    (ap (list_all (has_two world)) (cells_are world n item each.0)
+    ∙ list_all-map (has_two world) (λ i. record { item = n; args = []; instant = i }) (instants_of world)
+    ∙ all_true _ (λ i. eq_true _ 2 (two_values world (record { item = n; args = []; instant = i }) alone whole here)) (instants_of world))
+    (cells_have_two world (n + 1) items alone whole each.1 (omega arith))
 
 zip_within : (world : World) (cells : List Cell) (table : List ℕ) → list_all (has_two world) cells ≡ true → list_all (λ k. nat_lt k 2) table ≡ true →
     list_all (λ p. nat_lt p.1 (cell_size world p.0)) (zip cells table) ≡ true
@@ -228,13 +227,13 @@ given_fits : (world : World) (lines : List Line) (table : List ℕ) → is_bool_
     IsGiven world lines (map Some table) → IsTable world table
 unfolding cells_of is_below
 given_fits world lines table alone fits given = record {
-    whole = sym (length-map table Some) ∙ ap length (sym given.same)
+  whole = sym (length-map table Some) ∙ ap length (sym given.same)
       ∙ all_sized world lines 0 world.items given.sound fits
-        (sym (position_from-zero (λ item. not (list_any (is_row item.name) lines)) world.items) ∙ given.none);
-    within = zip_within world (cells_of world) table
+      (sym (position_from-zero (λ item. not (list_any (is_row item.name) lines)) world.items) ∙ given.none);
+  within = zip_within world (cells_of world) table
       (cells_have_two world 0 world.items alone fits fits (omega arith))
       (sym (list_all-map is_below Some table) ∙ ap (list_all is_below) (sym given.same) ∙ given_below lines world.items);
-  }
+}
 
 -- a history text in which every value is known is a table of its specification
 pub table_fits : (spec : Spec) (text table : List ℕ) → IsTableText (world_of spec) text table → IsTable (world_of spec) table

@@ -3,7 +3,6 @@ use Rattle.std.specs.Prelude.{ℕ, ◌+◌, Bool, true, false, not, ◌==◌, na
 use Rattle.std.specs.List.{list_any, flat_map}
 use Rattle.std.specs.Option.{option_map, option_and_then}
 use Rattle.std.specs.Str.{bytes_eq}
-use Rattle.trio_types.specs.declared.spec.Item.{Item}
 use Rattle.trio_types.specs.World.{World}
 use Rattle.history_check.specs.declared.table.Entry.{Entry}
 use Rattle.history_check.specs.declared.table.Entry.TheVariants as entry

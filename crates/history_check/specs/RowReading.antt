@@ -1,6 +1,5 @@
 -- What the steps of reading a history text answer.
 use Rattle.std.specs.Prelude.{◌≡◌, ℕ, Bool, not, ◌==◌, true, false, position, find, if◌then◌else◌, List, [], ◌∷◌, Option, None, Some, map, Result, Ok, Err}
-use Rattle.std.specs.Option.{option_map}
 use Rattle.std.specs.List.{list_any, flat_map}
 use Rattle.std.specs.Str.{bytes_eq}
 use Rattle.trio_text.specs.declared.token.Token.{Token}

@@ -1,6 +1,7 @@
 //! The text of a history, and the table that it stands for.
 
 ghost use Rattle.std.specs.Prelude.{◌≡◌, ℕ, List, Option, Some, map, IfOk, IfErr};
+ghost use Rattle.trio_types.specs.World.{World};
 ghost use Rattle.trio_types.specs.Cells.{IsTable};
 ghost use Rattle.trio_types.specs.Verdict.{world_of};
 ghost use Rattle.history_check.specs.Answers.{IsHistory, IsTableText};
@@ -13,7 +14,7 @@ mod parse;
 use std::alloc::{AllocError, Global};
 use thiserror::Error;
 use trio_base::{List, Name};
-use trio_text::LexFault;
+use trio_text::{LexFault, text_is_one_list_of_tokens};
 use trio_types::Spec;
 
 /// A value index for each cell, in the order of the cells' numbers.
@@ -93,6 +94,13 @@ fn refusal(fault: HistoryFault) -> HistFault
         HistoryFault::Memory => HistFault::Memory,
         _ => HistFault::Refused,
     }
+}
+
+/// A text is at most one history in which every value is known.
+pub fn text_is_one_history()
+    ensures { (world : World) (text table other : List ℕ) → IsTableText world text table → IsTableText world text other → table ≡ other }
+{
+    text_is_one_list_of_tokens();
 }
 
 /// The values, where each is known.

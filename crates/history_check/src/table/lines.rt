@@ -18,25 +18,30 @@ use trio_text::{Lexeme, Token};
 use trio_types::{Item, Spec};
 
 /// The rows of all lines, or the fault of the first faulty line.
-pub fn rows(alloc: Global, spec: &Spec, tokens: &[Token], lexemes: &[Lexeme]) -> Result<List<Row>, HistoryFault>
+pub fn rows(
+    alloc: Global,
+    spec: &Spec,
+    tokens: &[Token],
+    lexemes: &[Lexeme],
+) -> Result<List<Row>, HistoryFault>
     requires { length lexemes.now ≡ length tokens.now }
     ensures rows { IfOk result (λ rows. AreRows (lines_by tokens.now lexemes.now) rows) }
     ensures sound { IfOk result (λ rows. lines_fault (world_of spec.now) [] (lines_by tokens.now lexemes.now) ≡ None) }
     ensures fault { IfErr result (IsFault (lines_fault (world_of spec.now) [] (lines_by tokens.now lexemes.now))) }
 {
     let mut found = Vec::new(alloc);
-    let mut rest = tokens;
-    let mut sayings = lexemes;
-    while let Some(first) = rest.first() {
+    let mut tokens_left = tokens;
+    let mut lexemes_left = lexemes;
+    while let Some(first) = tokens_left.first() {
         let line = first.line;
-        let count = run_length(rest, line);
-        let (here, behind) = sayings.split_at(count);
+        let count = run_length(tokens_left, line);
+        let (here, behind) = lexemes_left.split_at(count);
         let row = checked_row(alloc, spec, found.as_slice(), line, here)?;
         if found.push(row).is_err() {
             return Err(HistoryFault::Memory);
         }
-        rest = rest.split_at(count).1;
-        sayings = behind;
+        tokens_left = tokens_left.split_at(count).1;
+        lexemes_left = behind;
     }
     Ok(List::from_vec(found))
 }
@@ -50,7 +55,13 @@ fn run_length(tokens: &[Token], line: u64) -> usize
 }
 
 /// The row of a line, or its first fault.
-fn checked_row(alloc: Global, spec: &Spec, earlier: &[Row], line: u64, lexemes: &[Lexeme]) -> Result<Row, HistoryFault>
+fn checked_row(
+    alloc: Global,
+    spec: &Spec,
+    earlier: &[Row],
+    line: u64,
+    lexemes: &[Lexeme],
+) -> Result<Row, HistoryFault>
     ensures row { IfOk result (λ row. row_of lexemes.now ≡ Some row) }
     ensures sound { IfOk result (λ row. row_fault (world_of spec.now) (has_row earlier.now) line (row_of lexemes.now) ≡ None) }
     ensures fault { IfErr result (IsFault (row_fault (world_of spec.now) (has_row earlier.now) line (row_of lexemes.now))) }

@@ -1,6 +1,6 @@
 use Rattle.trio_types.specs.Verdict.{world_of}
 use Rattle.history_check.proofs.LineSteps.{joined_ok}
-use Rattle.std.proofs.Common.{sym, ◌∙◌, ap}
+use Rattle.std.proofs.Common.{sym, ◌∙◌}
 use Rattle.history_check.proofs.table.joined.Goals as goal
 
 pub returns : goal.returns

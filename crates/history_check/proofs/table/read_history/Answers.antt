@@ -1,7 +1,7 @@
-use Rattle.std.proofs.Common.{List, ◌≡◌, sym, ◌∙◌, ap, subst, Ok, IfErr, map}
+use Rattle.std.proofs.Common.{sym, ◌∙◌, subst, Ok, IfErr}
 use Rattle.trio_types.specs.Cells.{IsTable}
 use Rattle.trio_types.specs.Verdict.{world_of}
-use Rattle.history_check.specs.Answers.{Says, IsTableText}
+use Rattle.history_check.specs.Answers.{Says}
 use Rattle.history_check.specs.RowReading.{IsRefusal, IsUnknown}
 use Rattle.history_check.proofs.RowAnswers.{refused_unknown, refused_fault, known_fits}
 use Rattle.history_check.proofs.RowFits.{table_fits}
@@ -11,7 +11,7 @@ pub returns-in-Ok-clause-fits : goal.returns-in-Ok-clause-fits
 returns-in-Ok-clause-fits c =
     known_fits (IsTable (world_of c.args.spec.now)) c.as_slice.result.now c.known.result c.known.ensures.ok
     (λ table e. table_fits c.args.spec.now c.args.text.now table
-      (subst (λ given. Says (world_of c.args.spec.now) c.args.text.now (Ok given)) (sym c.as_slice.ensures ∙ e) c.in-Ok.ensures.exact))
+    (subst (λ given. Says (world_of c.args.spec.now) c.args.text.now (Ok given)) (sym c.as_slice.ensures ∙ e) c.in-Ok.ensures.exact))
 
 pub returns-in-Ok-clause-refused : goal.returns-in-Ok-clause-refused
 returns-in-Ok-clause-refused c =
@@ -20,8 +20,8 @@ returns-in-Ok-clause-refused c =
 
 pub returns-in-Err : goal.returns-in-Err
 returns-in-Err c = record {
-    ok = tt;
-    fits = tt;
-    refused = subst (IsRefusal (world_of c.args.spec.now) c.args.text.now) (sym c.refusal.ensures)
+  ok = tt;
+  fits = tt;
+  refused = subst (IsRefusal (world_of c.args.spec.now) c.args.text.now) (sym c.refusal.ensures)
       (refused_fault (world_of c.args.spec.now) c.args.text.now c.in-Err.fault c.in-Err.ensures.only);
-  }
+}

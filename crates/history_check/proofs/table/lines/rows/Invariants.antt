@@ -6,7 +6,7 @@ use Rattle.history_check.proofs.table.lines.rows.Given as goal
 
 abbrev pub invariant-loop-first : goal.invariant-loop-first
 invariant-loop-first l =
-    Behind (world_of l.spec) (lines_by l.tokens l.lexemes) (lines_by l.rest l.sayings) l.found.items × (length l.sayings ≡ length l.rest)
+    Behind (world_of l.spec) (lines_by l.tokens l.lexemes) (lines_by l.tokens_left l.lexemes_left) l.found.items × (length l.lexemes_left ≡ length l.tokens_left)
 
 abbrev pub decreases-loop-first : goal.decreases-loop-first
-decreases-loop-first l = length l.rest
+decreases-loop-first l = length l.tokens_left

@@ -1,6 +1,5 @@
-use Rattle.std.proofs.Common.{◌≡◌, [], ◌∷◌, ◌++◌, length, ◌-◌, take, drop, sym, ◌∙◌, subst, option_map, List}
+use Rattle.std.proofs.Common.{◌≡◌, ◌++◌, length, ◌-◌, take, drop, sym, ◌∙◌, subst, option_map, List}
 use Rattle.history_check.specs.declared.table.Entry.{Entry}
-use Rattle.history_check.specs.declared.table.Entry.TheVariants as entry
 use Rattle.history_check.specs.Rows.{entries_of}
 use Rattle.history_check.proofs.RowEntries.{rest_is, opposite_found, single_found}
 use Rattle.history_check.proofs.table.parse.entries.Goals as goal
