@@ -1,6 +1,6 @@
 //! The text of a history, and the table that it stands for.
 
-ghost use Rattle.std.specs.Prelude.{◌≡◌, ℕ, List, Option, Some, map, IfOk, IfErr};
+ghost use Rattle.std.specs.Prelude.{◌≡◌, ℕ, List, map, IfOk, IfErr};
 ghost use Rattle.trio_types.specs.World.{World};
 ghost use Rattle.trio_types.specs.Cells.{IsTable};
 ghost use Rattle.trio_types.specs.Verdict.{world_of};
@@ -11,7 +11,7 @@ mod gather;
 mod lines;
 mod parse;
 
-use std::alloc::{AllocError, Global};
+use std::alloc::Global;
 use thiserror::Error;
 use trio_base::{List, Name};
 use trio_text::{LexFault, text_is_one_list_of_tokens};

@@ -2,7 +2,7 @@
 
 ghost use Rattle.std.specs.Prelude.{◌≡◌, not, IfOk, OnOk, position, map, find, ◌++◌};
 ghost use Rattle.std.specs.Option.{option_copied, option_and_then};
-ghost use Rattle.std.specs.List.{list_any, flat_map};
+ghost use Rattle.std.specs.List.{flat_map};
 ghost use Rattle.std.specs.Str.{bytes_eq};
 ghost use Rattle.history_check.specs.History.{index_of, cell_of, cells_of_row};
 ghost use Rattle.history_check.specs.RowReading.{has_row, cells_of_item};

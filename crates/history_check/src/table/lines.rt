@@ -1,9 +1,8 @@
 //! Reads the rows of a history text line by line.
 
-ghost use Rattle.std.specs.Prelude.{◌≡◌, [], length, MatchResult, IfOk, IfErr, map, option_map, position, is_none, take_while, ◌==◌, ◌+◌, ◌≤◌};
+ghost use Rattle.std.specs.Prelude.{◌≡◌, [], length, IfOk, IfErr, position, is_none, take_while, ◌==◌, ◌≤◌};
 ghost use Rattle.std.specs.List.{list_any};
 ghost use Rattle.std.specs.Str.{bytes_eq};
-ghost use Rattle.trio_types.specs.World.{World};
 ghost use Rattle.trio_types.specs.Verdict.{world_of};
 ghost use Rattle.history_check.specs.Rows.{row_of};
 ghost use Rattle.history_check.specs.History.{cell_of, row_fault, lines_fault};
