@@ -14,7 +14,7 @@ use Rattle.trio_types.specs.Cells.{cells_of, value_at, IsTable}
 use Rattle.trio_types.specs.Values.{value, item_value, indexes, plus}
 use Rattle.trio_types.specs.WellFormed.{Sort, wrong, written, signed, truth_value, is_written, is_distance, is_truth_value, sort_if, sort_of, item_fits}
 use Rattle.trio_types.proofs.Equations.{value-Read, value-Sum, sort_of-Number, sort_of-Value, sort_of-Read, sort_of-Read_args, sort_of-Sum}
-use Rattle.trio_types.proofs.Lists.{each_of}
+use Rattle.trio_types.proofs.Lists.{each_of, get_within}
 use Rattle.trio_types.proofs.CellNumbers.{cell, entry_is_value, no_args}
 
 if_right : (b : Bool) (s : Sort) → sort_if b s ≢ wrong → b ≡ true
@@ -65,13 +65,8 @@ opposite_value w p t i z minus is =
 pub read_value : (w : World) (k : ℕ) (t : List ℕ) (i n v : ℕ) → list_all item_fits w.items ≡ true → k < length w.items → IsTable w t →
     slice_get (cells_of w) n ≡ Some (cell k [] i) → slice_get t n ≡ Some v → value w (term.Read k []) [] t i ≡ Some (pos v)
 read_value w k t i n v fits inside table at entry =
-    value-Read w k [] [] t i ∙ of_item (slice_get w.items k) (λ item is. no_args item (each_of item_fits w.items fits k item is)) (some w.items k inside)
+    value-Read w k [] [] t i ∙ of_item (slice_get w.items k) (λ item is. no_args item (each_of item_fits w.items fits k item is)) (get_within w.items k inside)
   where
-    some : (items : List Item) (n : ℕ) → n < length items → (item : Item) × (slice_get items n ≡ Some item)
-    some [] n inside = absurd (omega arith)
-    some (item ∷ items) zero inside = (item, refl)
-    some (item ∷ items) (suc n) inside = some items n (omega arith)
-
     of_item : (o : Option Item) → ((item : Item) → o ≡ Some item → item.args ≡ []) → (item : Item) × (o ≡ Some item) → item_value w k o [] t i ≡ Some (pos v)
     of_item None none is = absurd (none-some is.0 is.1)
     of_item (Some item) none is =

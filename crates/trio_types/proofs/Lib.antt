@@ -1,3 +1,4 @@
+-- The lemmas of the crate.
 pub mod Equations
 pub mod Lists
 pub mod Verdicts

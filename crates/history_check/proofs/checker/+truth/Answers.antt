@@ -1,3 +1,4 @@
+-- The answers to the goals of `holds`, `all_hold` and `any_holds`.
 use Rattle.std.proofs.Common.{◌≡◌, Bool, true, false, not, pos, ◌+ℤ◌, to_z, of_z, w64, [], length, take, get_or, refl, sym, ap, ◌∙◌, arith, rules}
 use Rattle.std.specs.List.{list_all, list_any}
 use Rattle.std.proofs.lemmas.Bool.{and_from, or_from}

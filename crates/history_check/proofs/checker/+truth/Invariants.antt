@@ -1,3 +1,4 @@
+-- What the loops of `all_hold` and `any_holds` keep.
 use Rattle.std.proofs.Common.{◌≡◌, true, false, [], take}
 use Rattle.std.specs.List.{list_all, list_any}
 use Rattle.trio_types.specs.Truth.{truth}

@@ -1,3 +1,4 @@
+-- The answers to the goals of `check`.
 use Rattle.std.proofs.Common.{◌≡◌, sym, ap, ◌∙◌}
 use Rattle.trio_types.specs.Verdict.{world_of}
 use Rattle.trio_types.proofs.Verdicts.{first_false_is, first_false_from}

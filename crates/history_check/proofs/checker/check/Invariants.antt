@@ -1,3 +1,4 @@
+-- What the loop of `check` keeps.
 use Rattle.std.proofs.Common.{◌≡◌, drop}
 use Rattle.trio_types.specs.Verdict.{world_of, first_false}
 use Rattle.trio_types.proofs.Verdicts.{first_false_from}

@@ -1,3 +1,4 @@
+-- The answers to the goals of `first_false_instant`.
 use Rattle.std.proofs.Common.{◌≡◌, ℕ, ◌-◌, not, [], find, Option, None, Some, refl, sym, ap, ◌∙◌, arith, rules, tests}
 use Rattle.std.specs.Option.{option_map}
 use Rattle.std.proofs.lemmas.Iterator.{YieldsList-from_range}

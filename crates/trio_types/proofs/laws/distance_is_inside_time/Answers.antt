@@ -1,3 +1,4 @@
+-- The answers to the goals of `distance_is_inside_time`.
 use Rattle.trio_types.proofs.Distances.{true_at_distance, distance_is_true}
 use Rattle.trio_types.proofs.laws.distance_is_inside_time.Goals as goal
 
