@@ -3,7 +3,6 @@ use Rattle.std.specs.Prelude.{ℕ, ◌+◌, Bool, true, false, not, ◌==◌, na
 use Rattle.std.specs.List.{list_any, flat_map}
 use Rattle.std.specs.Option.{option_map, option_and_then}
 use Rattle.std.specs.Str.{bytes_eq}
-use Rattle.trio_types.specs.declared.spec.Item.{Item}
 use Rattle.trio_types.specs.World.{World}
 use Rattle.history_check.specs.declared.table.Entry.{Entry}
 use Rattle.history_check.specs.declared.table.Entry.TheVariants as entry
@@ -26,7 +25,7 @@ abbrev pub cell_of : Entry → Option (Option ℕ)
 cell_of entry.Unknown = Some None
 cell_of value = option_map Some (index_of value)
 
-abbrev row_is_named : List ℕ → Option Row → Bool
+abbrev pub row_is_named : List ℕ → Option Row → Bool
 row_is_named name None = false
 row_is_named name (Some row) = bytes_eq row.name name
 
@@ -34,22 +33,22 @@ row_is_named name (Some row) = bytes_eq row.name name
 abbrev pub is_row : List ℕ → Line → Bool
 is_row name line = row_is_named name (row_of line.tokens)
 
-abbrev is_item : World → List ℕ → Bool
+abbrev pub is_item : World → List ℕ → Bool
 is_item world name = list_any (λ item. bytes_eq item.name name) world.items
 
--- the first fault of a row behind earlier lines
-abbrev row_fault : World → List Line → ℕ → Option Row → Option HistoryFault
-row_fault world earlier number None = Some (fault.Syntax number)
-row_fault world earlier number (Some row) =
+-- the first fault of a row, where earlier lines have rows of these names
+abbrev pub row_fault : World → (List ℕ → Bool) → ℕ → Option Row → Option HistoryFault
+row_fault world is_taken number None = Some (fault.Syntax number)
+row_fault world is_taken number (Some row) =
     if not (is_item world row.name) then Some (fault.UnknownRow number)
-    else (if list_any (is_row row.name) earlier then Some (fault.TwiceRow number)
+    else (if is_taken row.name then Some (fault.TwiceRow number)
     else (if not (length row.entries == world.instants) then Some (fault.Length number)
     else option_map (λ column. fault.Value number (column + 1)) (position (λ value. is_none (cell_of value)) row.entries)))
 
 abbrev pub line_fault : World → List Line → Line → Option HistoryFault
-line_fault world earlier line = row_fault world earlier line.number (row_of line.tokens)
+line_fault world earlier line = row_fault world (λ name. list_any (is_row name) earlier) line.number (row_of line.tokens)
 
-abbrev first_of : Option HistoryFault → Option HistoryFault → Option HistoryFault
+abbrev pub first_of : Option HistoryFault → Option HistoryFault → Option HistoryFault
 first_of None later = later
 first_of (Some f) later = Some f
 
@@ -62,11 +61,11 @@ lines_fault world earlier (line ∷ lines) = first_of (line_fault world earlier 
 abbrev pub missing_row : World → List Line → Option ℕ
 missing_row world lines = position (λ item. not (list_any (is_row item.name) lines)) world.items
 
-abbrev cells_of_row : Option Row → List (Option ℕ)
+abbrev pub cells_of_row : Option Row → List (Option ℕ)
 cells_of_row None = []
 cells_of_row (Some row) = map (λ value. option_and_then (λ cell. cell) (cell_of value)) row.entries
 
-abbrev cells_of_line : Option Line → List (Option ℕ)
+abbrev pub cells_of_line : Option Line → List (Option ℕ)
 cells_of_line None = []
 cells_of_line (Some line) = cells_of_row (row_of line.tokens)
 
@@ -74,11 +73,11 @@ cells_of_line (Some line) = cells_of_row (row_of line.tokens)
 abbrev pub given_of : World → List Line → List (Option ℕ)
 given_of world lines = flat_map (λ item. cells_of_line (find (is_row item.name) lines)) world.items
 
-abbrev if_whole : World → List Line → Option ℕ → Result (List (Option ℕ)) HistoryFault
+abbrev pub if_whole : World → List Line → Option ℕ → Result (List (Option ℕ)) HistoryFault
 if_whole world lines None = Ok (given_of world lines)
 if_whole world lines (Some number) = Err (fault.MissingRow number)
 
-abbrev if_sound : World → List Line → Option HistoryFault → Result (List (Option ℕ)) HistoryFault
+abbrev pub if_sound : World → List Line → Option HistoryFault → Result (List (Option ℕ)) HistoryFault
 if_sound world lines None = if_whole world lines (missing_row world lines)
 if_sound world lines (Some f) = Err f
 

@@ -1,3 +1,4 @@
 pub mod Rows
 pub mod History
 pub mod Answers
+pub mod RowReading

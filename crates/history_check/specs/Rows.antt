@@ -29,7 +29,7 @@ abbrev pub lines_of : List ℕ → List Token → List Line
 lines_of text [] = []
 lines_of text (token ∷ tokens) = with_token text token (lines_of text tokens)
 
-abbrev before_entries : Entry → Option (List Entry) → Option (List Entry)
+abbrev pub before_entries : Entry → Option (List Entry) → Option (List Entry)
 before_entries first entries = option_map (λ more. first ∷ more) entries
 
 -- none or more values

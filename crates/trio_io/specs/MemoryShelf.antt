@@ -1,18 +1,14 @@
 -- What a shelf in memory holds and counts, and what it answers.
-use Rattle.std.specs.Prelude.{ℕ, ◌+◌, ◌-◌, ◌^◌, ◌==◌, min, Bool, true, false, List, length, Option, Some, None, Result, Ok, Err, if◌then◌else◌}
+use Rattle.std.specs.Prelude.{ℕ, ◌==◌, Bool, true, false, List, length, Option, Some, None, Result, Ok, Err, if◌then◌else◌}
 use Rattle.std.specs.Bool.{nat_lt}
 use Rattle.std.specs.List.{list_any}
 use Rattle.std.specs.Option.{option_map}
 use Rattle.std.specs.BTreeMap.{get_by_text}
-use Rattle.trio_io.specs.Outside.{FileMap, ShelfCounts}
+use Rattle.trio_io.specs.Outside.{FileMap, ShelfCounts, raised}
 use Rattle.trio_io.specs.declared.files.Files.{Files}
 use Rattle.trio_io.specs.declared.memory_shelf.MemShelf.{MemShelf}
 use Rattle.trio_io.specs.declared.shelf.ShelfFault.{ShelfFault}
 use Rattle.trio_io.specs.declared.shelf.ShelfFault.TheVariants as fault
-
--- One more, up to the last value of 64 bits.
-abbrev pub raised : ℕ → ℕ
-raised count = min (count + 1) (2 ^ 64 - 1)
 
 -- The bytes under each name.
 abbrev pub files_of : Files → FileMap

@@ -2,7 +2,7 @@
 use Rattle.std.specs.Prelude.{ℕ, ◌-◌, ◌==◌, min, Bool, List, length, Result, Ok, Err, if◌then◌else◌, ◌||◌}
 use Rattle.std.specs.Bool.{nat_le}
 use Rattle.std.specs.List.{list_any}
-use Rattle.trio_io.specs.MemoryShelf.{raised}
+use Rattle.trio_io.specs.Outside.{raised}
 use Rattle.trio_io.specs.declared.memory_sink.MemSink.{MemSink}
 use Rattle.trio_io.specs.declared.sink.SinkFault.{SinkFault}
 use Rattle.trio_io.specs.declared.sink.SinkFault.TheVariants as fault

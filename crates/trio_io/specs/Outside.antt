@@ -5,9 +5,13 @@ use Rattle.std.specs.Prelude.{◌≡◌, ℕ, ◌+◌, ◌-◌, ◌^◌, ◌<◌
 abbrev pub FileMap : Type 0
 FileMap = List ℕ → Option (List ℕ)
 
+-- One more, up to the last value of 64 bits.
+abbrev pub raised : ℕ → ℕ
+raised count = min (count + 1) (2 ^ 64 - 1)
+
 -- The count rose. One that stands at the last value of its 64 bits stays there, and has then risen too.
 abbrev pub Rose : ℕ → ℕ → Type 0
-Rose before now = min (before + 1) (2 ^ 64 - 1) ≤ now
+Rose before now = raised before ≤ now
 
 -- The four counts of a shelf.
 pub record ShelfCounts : Type 0 where

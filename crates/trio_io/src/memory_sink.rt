@@ -52,8 +52,7 @@ impl MemSink {
 }
 
 impl Sink for MemSink {
-    ghost use Rattle.trio_io.specs.Outside.{Rose, Writes};
-    ghost use Rattle.trio_io.specs.MemoryShelf.{raised};
+    ghost use Rattle.trio_io.specs.Outside.{Rose, raised};
     ghost use Rattle.trio_io.specs.MemorySink.{mem_written, mem_faults, write_answer};
 
     ghost tells = { λ _. true };
