@@ -160,7 +160,13 @@ fn item_number(scope: &Scope<'_>, name: &Name) -> u32
     ensures { result ≡ spec.item_number (item_names scope.now.tree.now) name.now }
 {
     match scope.number(name) {
-        Some(number) if number < scope.tree.items.len() => number as u32,
-        _ => 0,
+        Some(number) => {
+            if number < scope.tree.items.len() {
+                number as u32
+            } else {
+                0
+            }
+        }
+        None => 0,
     }
 }

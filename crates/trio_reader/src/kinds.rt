@@ -72,7 +72,8 @@ fn first_read(scope: &Scope<'_>, term: &TermTree) -> Option<usize>
     match term {
         TermTree::Named(name, place) => unless(!scope.is_item(name), *place),
         TermTree::Minus(_, part) => first_read(scope, part.get()),
-        TermTree::Number(_, _) | TermTree::Truth(_) => None,
+        TermTree::Number(_, _) => None,
+        TermTree::Truth(_) => None,
     }
 }
 

@@ -22,10 +22,10 @@ pub fn first_out_of_range(tree: &SpecTree) -> Option<usize>
     first
 }
 
-fn in_axiom(instants: u32, axiom: &AxiomTree) -> Option<usize>
-    ensures { result ≡ least (axiom_ranges instants axiom.now) }
+fn in_axiom(instants: u32, tree: &AxiomTree) -> Option<usize>
+    ensures { result ≡ least (axiom_ranges instants tree.now) }
 {
-    earlier(in_instant(instants, &axiom.at), in_formula(&axiom.formula))
+    earlier(in_instant(instants, &tree.at), in_formula(&tree.formula))
 }
 
 fn in_instant(instants: u32, at: &Option<Written>) -> Option<usize>
@@ -74,7 +74,8 @@ fn in_term(term: &TermTree) -> Option<usize>
     match term {
         TermTree::Number(number, place) => unless(*number <= GREATEST_NUMBER, *place),
         TermTree::Minus(_, part) => in_term(part.get()),
-        TermTree::Truth(_) | TermTree::Named(_, _) => None,
+        TermTree::Truth(_) => None,
+        TermTree::Named(_, _) => None,
     }
 }
 

@@ -62,6 +62,7 @@ fn in_term(scope: &Scope<'_>, known: usize, term: &TermTree) -> Option<usize>
     match term {
         TermTree::Named(name, place) => unless(scope.is_among(known, name), *place),
         TermTree::Minus(_, part) => in_term(scope, known, part.get()),
-        TermTree::Number(_, _) | TermTree::Truth(_) => None,
+        TermTree::Number(_, _) => None,
+        TermTree::Truth(_) => None,
     }
 }
