@@ -1,6 +1,8 @@
 pub mod Least
 pub mod Terms
 pub mod Gathers
-pub mod Redeclared
 pub mod Placed
 pub mod Numbered
+pub mod Noted
+pub mod Enumerated
+pub mod Erased

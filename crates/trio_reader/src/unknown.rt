@@ -13,12 +13,12 @@ use trio_syntax::{FormulaTree, TermTree};
 pub fn first_unknown(scope: &Scope<'_>) -> Option<usize>
     ensures { result ≡ least (unknown_places scope.now.tree.now) }
 {
-    let items = scope.tree.items.len();
+    let items = scope.tree.items.as_slice().len();
     let mut first = None;
     for (number, axiom) in scope.tree.axioms.as_slice().iter().enumerate() {
         first = earlier(
             first,
-            in_formula(scope, items + (number + 1), &axiom.formula),
+            in_formula(scope, items + number + 1, &axiom.formula),
         );
     }
     first

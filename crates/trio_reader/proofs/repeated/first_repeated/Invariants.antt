@@ -2,7 +2,7 @@ use Rattle.std.proofs.Common.{◌≡◌, ◌+◌, length, take}
 use Rattle.std.specs.List.{flat_map, enumerate_from}
 use Rattle.trio_reader.specs.Places.{least}
 use Rattle.trio_reader.specs.Scope.{declarations}
-use Rattle.trio_reader.proofs.Redeclared.{place_if_repeated}
+use Rattle.trio_reader.proofs.Enumerated.{place_if_repeated}
 use Rattle.trio_reader.proofs.repeated.first_repeated.Given as goal
 
 abbrev pub invariant-loop-number : goal.invariant-loop-number
