@@ -1,6 +1,5 @@
 -- What the tokens of a text say.
-use Rattle.std.specs.Prelude.{◌≡◌, ℕ, ◌+◌, ◌-◌, ◌*◌, min, Bool, true, List, take, drop, map, fold}
-use Rattle.std.specs.List.{list_all}
+use Rattle.std.specs.Prelude.{ℕ, ◌+◌, ◌-◌, ◌*◌, min, Bool, true, List, take, drop, map, fold}
 use Rattle.trio_text.specs.declared.token.Token.{Token}
 use Rattle.trio_text.specs.declared.token.TokenKind.{TokenKind}
 use Rattle.trio_text.specs.declared.token.TokenKind.TheVariants as kind

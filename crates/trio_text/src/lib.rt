@@ -1,8 +1,16 @@
 //! The tokens of specification and history texts, and the lexemes that grammars are said over.
 #![tactic(auto)]
 
+mod laws;
 mod lexeme;
+mod lexer;
+mod spelling;
 mod token;
 
-pub use lexeme::{GREATEST_NUMBER, Lexeme, Lexemes};
+pub use laws::{
+    names_are_names, text_has_one_fault, text_is_one_list_of_tokens, tokens_are_no_more_than_bytes,
+    tokens_stand_in_order,
+};
+pub use lexeme::{GREATEST_NUMBER, Lexeme, Lexemes, lexemes};
+pub use lexer::tokens;
 pub use token::{LexFault, Reserved, Symbol, Token, TokenKind, TokenList};

@@ -1,0 +1,6 @@
+pub mod Runs
+pub mod Spellings
+pub mod Longest
+pub mod Steps
+pub mod Spans
+pub mod Ascii

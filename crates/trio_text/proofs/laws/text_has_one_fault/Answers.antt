@@ -1,0 +1,5 @@
+use Rattle.trio_text.proofs.Steps.{one_fault, fault_or_tokens}
+use Rattle.trio_text.proofs.laws.text_has_one_fault.Goals as goal
+
+pub returns : goal.returns
+returns c = record { one = one_fault; apart = fault_or_tokens }

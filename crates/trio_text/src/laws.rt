@@ -1,0 +1,34 @@
+//! What is true of the tokens of every text, each law the contract of a call that does nothing.
+
+ghost use Rattle.std.specs.Prelude.{◌≡◌, ◌≤◌, ℕ, true, List, length};
+ghost use Rattle.std.specs.List.{list_all};
+ghost use Rattle.trio_text.specs.declared.token.Token.{Token};
+ghost use Rattle.trio_text.specs.Tokens.{IsTokens, IsLexFault};
+ghost use Rattle.trio_text.specs.Lexemes.{lexemes_of, names_a_name};
+ghost use Rattle.trio_text.specs.Spans.{StandInOrder};
+
+/// A text is at most one list of tokens.
+pub fn text_is_one_list_of_tokens()
+    ensures { (text : List ℕ) (tokens others : List Token) → IsTokens text tokens → IsTokens text others → tokens ≡ others }
+{}
+
+/// A text has at most one fault, and where it has one it is no list of tokens.
+pub fn text_has_one_fault()
+    ensures one { (text : List ℕ) (place other : ℕ) → IsLexFault text place → IsLexFault text other → place ≡ other }
+    ensures apart { (text : List ℕ) (place : ℕ) (tokens : List Token) → IsLexFault text place → IsTokens text tokens → ⊥ }
+{}
+
+/// The names among the lexemes of a text are names.
+pub fn names_are_names()
+    ensures { (text : List ℕ) (tokens : List Token) → IsTokens text tokens → list_all names_a_name (lexemes_of text tokens) ≡ true }
+{}
+
+/// Tokens stand one behind another, each at one byte or more of the text, and their lines do not fall.
+pub fn tokens_stand_in_order()
+    ensures { (text : List ℕ) (tokens : List Token) → IsTokens text tokens → StandInOrder 0 1 tokens (length text) }
+{}
+
+/// A text has no more tokens than bytes.
+pub fn tokens_are_no_more_than_bytes()
+    ensures { (text : List ℕ) (tokens : List Token) → IsTokens text tokens → length tokens ≤ length text }
+{}
