@@ -3,8 +3,8 @@ use Rattle.std.specs.Prelude.{◌≡◌, ℕ, List, Option, None, Some, map, Res
 use Rattle.trio_text.specs.declared.token.Token.{Token}
 use Rattle.trio_text.specs.Tokens.{IsTokens, IsLexFault}
 use Rattle.trio_types.specs.World.{World}
-use Rattle.history_check.specs.declared.check.Verdict.{Verdict}
-use Rattle.history_check.specs.declared.check.Verdict.TheVariants as verdict
+use Rattle.history_check.specs.declared.checker.Verdict.{Verdict}
+use Rattle.history_check.specs.declared.checker.Verdict.TheVariants as verdict
 use Rattle.history_check.specs.declared.table.HistoryFault.{HistoryFault}
 use Rattle.history_check.specs.declared.table.HistoryFault.TheVariants as fault
 use Rattle.history_check.specs.Rows.{lines_of}

@@ -1,7 +1,7 @@
 //! Histories, and whether a complete one makes a specification true.
 #![tactic(auto)]
 
-mod check;
+mod checker;
 pub mod table;
 
-pub use check::Verdict;
+pub use checker::{Verdict, check};

@@ -1,5 +1,5 @@
 -- Cells and tables. A table gives each cell a value index, in the order of the list of cells.
-use Rattle.std.specs.Prelude.{◌≡◌, ℕ, Bool, true, ◌&&◌, ◌==◌, nat_lt, List, [], ◌∷◌, Option, None, Some, map, find, length, slice_get}
+use Rattle.std.specs.Prelude.{◌≡◌, ℕ, Bool, true, false, ◌&&◌, ◌==◌, nat_lt, List, [], ◌∷◌, Option, None, Some, map, find, length, slice_get}
 use Rattle.std.specs.List.{range_with_len, enumerate_from, flat_map, zip, list_all}
 use Rattle.std.specs.Option.{option_map}
 use Rattle.std.specs.Str.{bytes_eq}
@@ -24,6 +24,20 @@ instants_of world = range_with_len 0 world.instants
 abbrev pub tuples : List Domain → List ℕ → List (List ℕ)
 tuples domains [] = [] ∷ []
 tuples domains (d ∷ ds) = flat_map (λ v. map (λ vs. v ∷ vs) (tuples domains ds)) (range_with_len 0 (size_of domains d))
+
+-- the indexes are those of values of these argument domains, one for each
+abbrev pub are_indexes : List Domain → List ℕ → List ℕ → Bool
+are_indexes domains [] [] = true
+are_indexes domains (d ∷ ds) (v ∷ vs) = nat_lt v (size_of domains d) && are_indexes domains ds vs
+are_indexes domains ds vs = false
+
+abbrev pub item_takes : World → Option Item → List ℕ → Bool
+item_takes world None args = false
+item_takes world (Some item) args = are_indexes world.domains item.args args
+
+-- the item of this number may have these arguments
+abbrev pub takes : World → ℕ → List ℕ → Bool
+takes world number args = item_takes world (slice_get world.items number) args
 
 -- the cells of one item: for each tuple each instant
 abbrev pub cells_of_item : World → ℕ → Item → List Cell

@@ -4,3 +4,4 @@ pub mod Values
 pub mod Truth
 pub mod WellFormed
 pub mod Verdict
+pub mod Laws

@@ -1,5 +1,5 @@
 -- The value of a term at an instant, under the values of quantified variables, in a table.
-use Rattle.std.specs.Prelude.{ℕ, ℤ, pos, negsuc, ◌+ℤ◌, neg_ℤ, Bool, true, false, nat_lt, if◌then◌else◌, List, [], ◌∷◌, Option, None, Some, map, slice_get}
+use Rattle.std.specs.Prelude.{ℕ, ℤ, pos, negsuc, ◌+ℤ◌, neg_ℤ, nat_lt, if◌then◌else◌, List, [], ◌∷◌, Option, None, Some, map, slice_get}
 use Rattle.std.specs.Option.{option_map, option_and_then}
 use Rattle.trio_types.specs.declared.spec.DomainKind.{DomainKind}
 use Rattle.trio_types.specs.declared.spec.DomainKind.TheVariants as kind

@@ -1,9 +1,8 @@
 -- Which specifications are well formed: names are names and distinct, numbers are in range, kinds are right, limits are met.
-use Rattle.std.specs.Prelude.{ℕ, ◌+◌, ◌*◌, Bool, true, false, not, ◌&&◌, ◌||◌, ◌==◌, nat_lt, nat_le, List, [], ◌∷◌, ◌++◌, Option, None, Some, map, sum_by, length, codes}
+use Rattle.std.specs.Prelude.{ℕ, ◌*◌, Bool, true, false, not, ◌&&◌, ◌==◌, nat_lt, nat_le, List, [], ◌∷◌, ◌++◌, Option, None, Some, map, length, codes}
 use Rattle.std.specs.List.{list_all, list_any}
 use Rattle.std.specs.Str.{bytes_eq}
 use Rattle.trio_base.specs.Names.{is_name}
-use Rattle.trio_types.specs.declared.spec.DomainKind.TheVariants as kind
 use Rattle.trio_types.specs.declared.spec.Domain.{Domain}
 use Rattle.trio_types.specs.declared.spec.Item.{Item}
 use Rattle.trio_types.specs.declared.spec.Axiom.{Axiom}
@@ -37,12 +36,12 @@ abbrev pub is_written : Sort → Bool
 is_written written = true
 is_written sort = false
 
-abbrev sort_if : Bool → Sort → Sort
+abbrev pub sort_if : Bool → Sort → Sort
 sort_if true sort = sort
 sort_if false sort = wrong
 
 -- a sum, of which only a number with `-` before it exists
-abbrev sum_sort : List (Bool × Sort) → Sort
+abbrev pub sum_sort : List (Bool × Sort) → Sort
 sum_sort (part ∷ []) = sort_if (part.0 && is_written part.1) signed
 sum_sort parts = wrong
 
@@ -54,17 +53,17 @@ term_sort items (open_term.Read number []) = sort_if (nat_lt number items) truth
 term_sort items (open_term.Read number args) = wrong
 term_sort items (open_term.Sum parts) = sum_sort parts
 
-abbrev part_sort : SignedTerm-F Sort (Bool × Sort) → Bool × Sort
+abbrev pub part_sort : SignedTerm-F Sort (Bool × Sort) → Bool × Sort
 part_sort part = (part.minus, part.term)
 
 unfoldable pub sort_of : ℕ → Term → Sort
 sort_of items = fold-Term Sort (Bool × Sort) (term_sort items) part_sort
 
 -- a number, or a number with `-` before it; it reads no item
-abbrev is_distance_term : ℕ → Term → Bool
+abbrev pub is_distance_term : ℕ → Term → Bool
 is_distance_term items term = is_distance (sort_of items term)
 
-abbrev two_or_more : List Bool → Bool
+abbrev pub two_or_more : List Bool → Bool
 two_or_more (p ∷ q ∷ ps) = true
 two_or_more ps = false
 
@@ -88,7 +87,7 @@ instant_fits instants (Some k) = nat_lt k instants
 abbrev pub axiom_fits : ℕ → ℕ → Axiom → Bool
 axiom_fits instants items a = instant_fits instants a.at && fits items a.formula
 
-abbrev is_none : List ℕ → Bool
+abbrev pub is_none : List ℕ → Bool
 is_none [] = true
 is_none args = false
 

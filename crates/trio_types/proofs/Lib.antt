@@ -1,0 +1,5 @@
+pub mod Equations
+pub mod Lists
+pub mod Verdicts
+pub mod CellNumbers
+pub mod Specs
