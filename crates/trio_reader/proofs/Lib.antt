@@ -6,3 +6,5 @@ pub mod Numbered
 pub mod Noted
 pub mod Enumerated
 pub mod Erased
+pub mod Empty
+pub mod Sorts
