@@ -8,3 +8,6 @@ pub mod Enumerated
 pub mod Erased
 pub mod Empty
 pub mod Sorts
+pub mod Fitting
+pub mod Distinct
+pub mod WellFormed

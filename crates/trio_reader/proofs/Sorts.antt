@@ -73,7 +73,7 @@ pub record HasSort (names : List (List ℕ)) (t : TermTree) : Type 0 where
   pub sort : sort_of (length names) (term_of names t) ≡ sort_of_kind (kind_of names t).0
   pub kinded : is_kinded (kind_of names t).0 ≡ true
 
-pub Sorted : List (List ℕ) → TermTree → Type 0
+unfoldable pub Sorted : List (List ℕ) → TermTree → Type 0
 Sorted names t = (kind_of names t).1 ≡ [] → large_among (numbers_in_term t) ≡ [] → HasSort names t
 
 below_number : (r : Option ℕ) (n : ℕ) → is_below r n ≡ true → nat_lt (unwrap_or r 0) n ≡ true
