@@ -1,0 +1,6 @@
+pub mod Rest
+pub mod Tail
+pub mod Repeat
+pub mod Terms
+pub mod Exits
+pub mod Formulas
