@@ -44,6 +44,27 @@ exact_here P J p q before middle after r same at exact =
     let place : q ≡ p = omega (arith, at, ap length same) in
     subst (λ n. Exact (P n) J before after r) place (subst (λ y. Exact (P q) J y after r) same exact)
 
+pub stuck_here : {A : Type 0} (P : ℕ → Language A) {J : Lexeme → Bool} (p q : ℕ) {before middle after : List Lexeme} →
+    middle ≡ before → q + length middle ≡ p + length before → Stuck (P q) J middle after → Stuck (P p) J before after
+stuck_here P {J} p q {before} {middle} {after} same at stuck =
+    let place : q ≡ p = omega (arith, at, ap length same) in
+    subst (λ n. Stuck (P n) J before after) place (subst (λ y. Stuck (P q) J y after) same stuck)
+
+pub reads_here : {A : Type 0} (P : ℕ → Language A) {J : Lexeme → Bool} (p q : ℕ) {before middle after : List Lexeme} {v : A} →
+    middle ≡ before → q + length middle ≡ p + length before → Reads (P q) J middle after v → Reads (P p) J before after v
+reads_here P {J} p q {before} {middle} {after} {v} same at reads =
+    let place : q ≡ p = omega (arith, at, ap length same) in
+    subst (λ n. Reads (P n) J before after v) place (subst (λ y. Reads (P q) J y after v) same reads)
+
+-- the same reading, with its end and its value said otherwise
+pub reads_to : {A : Type 0} {P : Language A} {K : Lexeme → Bool} {before after other : List Lexeme} {v w : A} → other ≡ after → w ≡ v → Reads P K before after v → Reads P K before other w
+reads_to {P = P} {K = K} {before = before} {after = after} {other = other} {v = v} end value reads =
+    subst (λ a. Reads P K before other a) (sym value) (subst (λ y. Reads P K before y v) (sym end) reads)
+
+-- the place where nothing was taken
+pub same_place : (p q : ℕ) {before middle : List Lexeme} → middle ≡ before → q + length middle ≡ p + length before → q ≡ p
+same_place p q same at = omega (arith, at, ap length same)
+
 pub lacks_here : (t : Lexeme) {before middle : List Lexeme} → middle ≡ before → Lacks t middle → Lacks t before
 lacks_here t same lacks = subst (λ y. Lacks t y) same lacks
 

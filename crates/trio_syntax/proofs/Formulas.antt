@@ -141,10 +141,10 @@ distance_back {p} (distance {x = x} {y = y} {f = f} {t = t} d e) =
 distance_back (atom d) = let h = term_heads d in (h.token, h.tail, h.whole, λ same. absurd (omega (arith, h.is, ap rank same)))
 
 distance_into : {p : ℕ} (y : List Lexeme) (b : FormulaTree) → IsDistance (p + 1) y b → IsPrimary p (lexeme.Word reserved.Dist ∷ y) b
-distance_into {p} y b d = into (p + 1) refl d
+distance_into {p} y b d = into (p + 1) y b refl d
   where
-  into : {z : List Lexeme} {a : FormulaTree} (q : ℕ) → q ≡ p + 1 → IsDistance q z a → IsPrimary p (lexeme.Word reserved.Dist ∷ z) a
-  into q same (distance_body {x = x} {y = w} {f = f} {t = t} d e) =
+  into : (q : ℕ) (z : List Lexeme) (a : FormulaTree) → q ≡ p + 1 → IsDistance q z a → IsPrimary p (lexeme.Word reserved.Dist ∷ z) a
+  into q z a same (distance_body {x = x} {y = w} {f = f} {t = t} d e) =
       let one : q + 1 ≡ p + 2 = omega (arith, same) in
       let two : q + length x + 2 ≡ p + length x + 3 = omega (arith, same) in
       subst (λ n. IsPrimary p (lexeme.Word reserved.Dist ∷ lexeme.Sign symbol.LeftRound ∷ x ++ lexeme.Sign symbol.Comma ∷ w ++ lexeme.Sign symbol.RightRound ∷ []) (formula.Dist f n t)) (sym two)
