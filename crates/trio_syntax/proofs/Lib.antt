@@ -4,3 +4,5 @@ pub mod Repeat
 pub mod Terms
 pub mod Exits
 pub mod Formulas
+pub mod Statements
+pub mod Depths

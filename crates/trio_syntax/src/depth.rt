@@ -23,10 +23,10 @@ fn open_after(opened: usize, token: &Lexeme) -> usize
 pub fn first_deep(lexemes: &[Lexeme]) -> Option<usize>
     ensures { result ≡ first_deep lexemes.now }
 {
-    let mut open = 0;
+    let mut opened = 0;
     for (place, lexeme) in lexemes.iter().enumerate() {
-        open = open_after(open, lexeme);
-        if open > GREATEST_DEPTH {
+        opened = open_after(opened, lexeme);
+        if opened > GREATEST_DEPTH {
             return Some(place);
         }
     }
