@@ -37,6 +37,12 @@ pub open_more : (tokens : List Lexeme) (i : ℕ) (d : Lexeme) → i < length tok
 unfolding open_behind
 open_more tokens i d within = fold_more open_after 0 tokens i d within
 
+-- the loop's step
+pub open_after_here : (tokens : List Lexeme) (i opened after : ℕ) (token : Lexeme) → i < length tokens → opened ≡ open_behind (take i tokens) → token ≡ get_or tokens i token → after ≡ open_after opened token →
+    after ≡ open_behind (take (i + 1) tokens)
+open_after_here tokens i opened after token within before here is =
+    is ∙ ap (λ n. open_after n token) before ∙ ap (λ t. open_after (open_behind (take i tokens)) t) here ∙ sym (open_more tokens i token within)
+
 pub deep_here : (tokens : List Lexeme) (k : ℕ) → k < length tokens → ((j : ℕ) → j < k → open_behind (take (j + 1) tokens) ≤ 100) → 100 < open_behind (take (k + 1) tokens) → Some k ≡ first_deep tokens
 unfolding first_deep
 deep_here tokens k within before here =

@@ -6,3 +6,4 @@ pub mod Exits
 pub mod Formulas
 pub mod Statements
 pub mod Depths
+pub mod Places
