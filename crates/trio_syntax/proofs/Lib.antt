@@ -7,3 +7,7 @@ pub mod Formulas
 pub mod Statements
 pub mod Depths
 pub mod Places
+pub mod Unique
+pub mod Faults
+pub mod Names
+pub mod Parts

@@ -1,8 +1,10 @@
 -- The form of the trees that are read: no conjunction or disjunction of fewer than two parts.
 use Rattle.std.specs.Prelude.{ℕ, Bool, true, ◌&&◌, nat_le, List, length}
 use Rattle.std.specs.List.{list_all}
-use Rattle.trio_syntax.specs.declared.tree.FormulaTree.{FormulaTree, FormulaTree-F, fold-FormulaTree}
+use Rattle.trio_syntax.specs.declared.tree.FormulaTree.{FormulaTree}
+use Rattle.trio_syntax.specs.declared.tree.FormulaTree.TheOpen.{FormulaTree-F}
 use Rattle.trio_syntax.specs.declared.tree.FormulaTree.TheOpen as node
+use Rattle.trio_syntax.specs.declared.tree.FormulaTree.TheFolds.{fold-FormulaTree}
 
 -- two parts or more, each of this form
 abbrev pub many_parts : List Bool → Bool
