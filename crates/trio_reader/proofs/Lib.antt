@@ -11,3 +11,4 @@ pub mod Sorts
 pub mod Fitting
 pub mod Distinct
 pub mod WellFormed
+pub mod Texts

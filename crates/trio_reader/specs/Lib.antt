@@ -6,3 +6,4 @@ pub mod Erasure
 pub mod Numbers
 pub mod Reading
 pub mod Sound
+pub mod Laws

@@ -5,6 +5,7 @@ mod building;
 mod fault;
 mod kind;
 mod kinds;
+mod laws;
 mod phases;
 mod place;
 mod ranges;
@@ -14,4 +15,7 @@ mod scope;
 mod unknown;
 
 pub use fault::SpecFault;
+pub use laws::{
+    faulty_text_is_no_specification, text_has_one_fault, text_has_one_specification,
+};
 pub use reading::read_spec;

@@ -20,8 +20,7 @@ pub fn read_spec(alloc: Global, text: &[u8]) -> Result<Spec, SpecFault>
 {
     match read_placed(alloc, text) {
         Ok(spec) => Ok(spec),
-        Err(TextFault::Memory) => Err(SpecFault::Memory),
-        Err(_) => Err(SpecFault::Refused),
+        Err(fault) => Err(fault.without_place()),
     }
 }
 
