@@ -48,16 +48,23 @@ kind_of items = fold-TermTree (TermKind × List ℕ) (term_kind items)
 abbrev pub reads_in : List (List ℕ) → TermTree → List ℕ
 reads_in items t = map (λ m. m.place) (filter (λ m. is_among items m.name) (names_in_term t))
 
+-- the places in a term that is a formula alone, whose first token is this one, at which a rule is broken
+abbrev pub alone_places : List (List ℕ) → ℕ → TermTree → List ℕ
+alone_places items p t = unless (may_stand_alone (kind_of items t).0) p ++ (kind_of items t).1
+
+-- the places in a distance, whose first token is this one, at which a rule is broken; a distance reads no item
+abbrev pub distance_places : List (List ℕ) → ℕ → TermTree → List ℕ
+distance_places items p t = unless (may_be_distance (kind_of items t).0) p ++ (reads_in items t ++ (kind_of items t).1)
+
 abbrev pub formula_kinds : List (List ℕ) → FormulaTree-F (List ℕ) → List ℕ
-formula_kinds items (open_formula.Atom p t) = unless (may_stand_alone (kind_of items t).0) p ++ (kind_of items t).1
+formula_kinds items (open_formula.Atom p t) = alone_places items p t
 formula_kinds items (open_formula.Not f) = f
 formula_kinds items (open_formula.And fs) = flat_map (λ f. f) fs
 formula_kinds items (open_formula.Or fs) = flat_map (λ f. f) fs
 formula_kinds items (open_formula.Implies f g) = f ++ g
-formula_kinds items (open_formula.Dist f p t) =
-    f ++ (unless (may_be_distance (kind_of items t).0) p ++ (reads_in items t ++ (kind_of items t).1))
+formula_kinds items (open_formula.Dist f p t) = f ++ distance_places items p t
 
--- the places in a formula at which a rule on kinds is broken; a distance reads no item
+-- the places in a formula at which a rule on kinds is broken
 unfoldable pub kind_places_in : List (List ℕ) → FormulaTree → List ℕ
 kind_places_in items = fold-FormulaTree (List ℕ) (formula_kinds items)
 

@@ -3,4 +3,7 @@ pub mod Scope
 pub mod Kinds
 pub mod Ranges
 pub mod Erasure
+pub mod Numbers
 pub mod Reading
+pub mod Sound
+pub mod Laws

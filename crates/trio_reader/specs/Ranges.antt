@@ -13,10 +13,13 @@ abbrev pub at_places : ℕ → Option Written → List ℕ
 at_places instants None = []
 at_places instants (Some k) = unless (nat_lt k.number instants) k.place
 
+-- the places of those numbers that are above a million
+abbrev pub large_among : List Written → List ℕ
+large_among numbers = map (λ n. n.place) (filter (λ n. nat_lt 1000000 n.number) numbers)
+
 -- any other number is at most a million
 abbrev pub axiom_ranges : ℕ → AxiomTree → List ℕ
-axiom_ranges instants a =
-    at_places instants a.at ++ map (λ n. n.place) (filter (λ n. nat_lt 1000000 n.number) (numbers_in a.formula))
+axiom_ranges instants a = at_places instants a.at ++ large_among (numbers_in a.formula)
 
 -- the places of numbers that are out of range; the number of instants, at place 1, is 1 to 256
 unfoldable pub range_places : SpecTree → List ℕ

@@ -21,8 +21,12 @@ declared_names tree = item_names tree ++ map (λ a. a.name) tree.axioms
 abbrev pub is_among : List (List ℕ) → List ℕ → Bool
 is_among names name = list_any (λ other. bytes_eq other name) names
 
+-- the places of those names that are not among these
+abbrev pub unknown_among : List (List ℕ) → List Mention → List ℕ
+unknown_among names mentions = map (λ m. m.place) (filter (λ m. not (is_among names m.name)) mentions)
+
 abbrev pub unknown_in : List (List ℕ) → FormulaTree → List ℕ
-unknown_in names f = map (λ m. m.place) (filter (λ m. not (is_among names m.name)) (names_in f))
+unknown_in names f = unknown_among names (names_in f)
 
 -- what is declared before the formula of the axiom of this number: each item, and each axiom up to this one
 abbrev pub known_names : SpecTree → ℕ → List (List ℕ)

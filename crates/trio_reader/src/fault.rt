@@ -45,3 +45,17 @@ pub enum TextFault {
     /// Want of memory.
     Memory,
 }
+
+impl TextFault {
+    ghost use Rattle.std.specs.Prelude.{◌≡◌, ◌↔◌};
+
+    /// The fault as those see it who ask for no place.
+    pub fn without_place(self) -> SpecFault
+        ensures { (result ≡ SpecFault.Memory) ↔ (self ≡ TextFault.Memory) }
+    {
+        match self {
+            TextFault::Memory => SpecFault::Memory,
+            _ => SpecFault::Refused,
+        }
+    }
+}
