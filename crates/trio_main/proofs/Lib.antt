@@ -1,3 +1,4 @@
 pub mod Verdicts
 pub mod Jobs
 pub mod Tellings
+pub mod Determined

@@ -82,3 +82,19 @@ unwritten asked w o s r text answers (inr failed) same =
 pub tells_unwritten : (asked : Option Command) (w : Shelves) (o : Sinks) (r : Status) → Finishes asked w o r → r ≡ status.WriteFault →
     TellsUnwritten asked w o
 tells_unwritten asked w o r ends same = unwritten asked w o ends.0 r ends.1 ends.2 ends.3 same
+
+none_said : (s : Status) (text : List ℕ) (w : Shelves) (o : Sinks) (r : Status) → Answers None w text s → Said s text o r →
+    (r ≡ status.Usage) ⊎ ((r ≡ status.WriteFault) ⊎ (r ≡ status.Memory))
+none_said status.Usage text w o r answers (inl said) = inl said.0
+none_said status.Usage text w o r answers (inr failed) = inr (inl failed.0)
+none_said status.Memory text w o r answers (inl said) = inr (inr said.0)
+none_said status.Memory text w o r answers (inr failed) = inr (inl failed.0)
+none_said status.Done text w o r answers said = absurd answers.0
+none_said status.False text w o r answers said = absurd answers.0
+none_said status.Refused text w o r answers said = absurd answers.0
+none_said status.ReadFault text w o r answers said = absurd answers.0
+none_said status.WriteFault text w o r answers said = absurd answers
+
+pub none_ends : (asked : Option Command) (w : Shelves) (o : Sinks) (r : Status) → Finishes asked w o r → asked ≡ None →
+    (r ≡ status.Usage) ⊎ ((r ≡ status.WriteFault) ⊎ (r ≡ status.Memory))
+none_ends asked w o r ends none = none_said ends.0 ends.1 w o r (rw none at ends.2) ends.3

@@ -1,19 +1,21 @@
 //! The top call: words, files and a sink in, a status out.
-ghost use Rattle.std.specs.Prelude.{◌≡◌, ℕ, ◌+◌, ◌≤◌, true, List, Option, None, Some, Ok, Err, string_bytes, IfOk, IfErr, MatchResult};
+ghost use Rattle.std.specs.Prelude.{◌≡◌, ◌⊎◌, ℕ, ◌+◌, ◌≤◌, true, List, Option, None, Some, Ok, Err, string_bytes, IfOk, IfErr, MatchResult};
 ghost use Rattle.trio_io.specs.Outside.{IsLater, Rose};
 ghost use Rattle.trio_main.specs.Words.{words_of, command_of, files_read};
 ghost use Rattle.trio_main.specs.Messages.{message, status_of, IsSayable, usage_line};
 ghost use Rattle.trio_main.specs.Outside.{shelves, sinks, WritesAll, WritesPart};
 ghost use Rattle.trio_main.specs.Answers.{Finishes, Said, JobEnds};
-ghost use Rattle.trio_main.specs.Readable.{TellsTrue, TellsFalse, TellsUsage, TellsRefused, TellsUnread, TellsUnwritten};
+ghost use Rattle.trio_main.specs.Readable.{TellsTrue, TellsFalse, TellsUsage, TellsRefused, TellsUnread, TellsUnwritten, IsComplete};
 
 use crate::answer::{Answer, check_answer};
 use crate::command::{Command, WordsFault, read_words};
 use crate::fault::Fault;
 use crate::status::Status;
+use history_check::table::text_is_one_history;
 use std::alloc::Global;
 use trio_base::Name;
 use trio_io::{Bell, Shelf, Sink, write_whole};
+use trio_reader::text_has_one_specification;
 
 /// Whom to ask for: the line that names every command.
 const USAGE: &str =
@@ -133,6 +135,12 @@ pub fn trio_plain<F: Shelf, K: Sink, B: Bell>(
     ensures unread { result ≡ Status.ReadFault → TellsUnread (command_of (words_of words.now)) (shelves F.tells F.file F.counts shelf.old shelf.new) }
     ensures unwritten { result ≡ Status.WriteFault → TellsUnwritten (command_of (words_of words.now)) (shelves F.tells F.file F.counts shelf.old shelf.new) (sinks K.tells K.written K.faults out.old out.new) }
 
+    // Words that are no command are answered with the usage line, unless a write fails or memory runs out.
+    ensures no_command { command_of (words_of words.now) ≡ None → (result ≡ Status.Usage) ⊎ ((result ≡ Status.WriteFault) ⊎ (result ≡ Status.Memory)) }
+
+    // Where nothing fails, the answer due is given, or want of memory.
+    ensures complete { IsComplete (command_of (words_of words.now)) (shelves F.tells F.file F.counts shelf.old shelf.new) (sinks K.tells K.written K.faults out.old out.new) result }
+
     // What a call leaves: every file, and a bell that is not armed. Each file is fetched once at most, and none where the words are no command.
     ensures files { (name : List ℕ) → F.file shelf.new name ≡ F.file shelf.old name }
     ensures calls { IsLater (files_read (command_of (words_of words.now))) (F.counts shelf.old) (F.counts shelf.new) }
@@ -140,5 +148,7 @@ pub fn trio_plain<F: Shelf, K: Sink, B: Bell>(
     ensures bell { bell.new ≡ bell.old }
 {
     let _ = bell;
+    text_has_one_specification();
+    text_is_one_history();
     run(alloc, words, shelf, out)
 }

@@ -1,5 +1,6 @@
 -- What each status tells is read off the one answer.
-use Rattle.trio_main.proofs.Tellings.{tells_true, tells_false, tells_usage, tells_refused, tells_unread, tells_unwritten}
+use Rattle.trio_main.proofs.Tellings.{tells_true, tells_false, tells_usage, tells_refused, tells_unread, tells_unwritten, none_ends}
+use Rattle.trio_main.proofs.Determined.{complete}
 use Rattle.trio_main.proofs.top.trio_plain.Goals as goal
 
 pub returns-clause-done : goal.returns-clause-done
@@ -19,3 +20,10 @@ returns-clause-unread g c = tells_unread _ _ _ c.run.result c.run.ensures.answer
 
 pub returns-clause-unwritten : goal.returns-clause-unwritten
 returns-clause-unwritten g c = tells_unwritten _ _ _ c.run.result c.run.ensures.answer
+
+pub returns-clause-complete : goal.returns-clause-complete
+returns-clause-complete g c =
+    complete c.text_has_one_specification.ensures c.text_is_one_history.ensures _ _ _ c.run.result c.run.ensures.answer
+
+pub returns-clause-no_command : goal.returns-clause-no_command
+returns-clause-no_command g c = none_ends _ _ _ c.run.result c.run.ensures.answer
