@@ -5,6 +5,8 @@ mod laws;
 mod lexeme;
 mod lexer;
 mod spelling;
+#[cfg(test)]
+mod tests;
 mod token;
 
 pub use laws::{

@@ -1,3 +1,5 @@
+//! Tokens: what they are, how words and symbols are spelled, and why a text is no list of tokens.
+
 ghost use Rattle.std.specs.Prelude.{◌≡◌};
 
 use thiserror::Error;

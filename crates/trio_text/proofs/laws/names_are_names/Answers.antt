@@ -1,3 +1,4 @@
+-- each name is spelled by its bytes
 use Rattle.trio_text.proofs.Spans.{names_are_names}
 use Rattle.trio_text.proofs.laws.names_are_names.Goals as goal
 

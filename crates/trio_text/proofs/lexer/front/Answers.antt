@@ -26,4 +26,4 @@ pub returns-in_err-sign : goal.returns-in_err-sign
 returns-in_err-sign c =
     rw c.from_residual-in_err-sign.ensures
     (no_token c.args.text.now (begins_at is_letter _ _ false c.in_ok-first.ensures.value c.if-is_letter.ensures)
-      (begins_at is_digit _ _ false c.in_ok-first.ensures.value c.if-is_digit.ensures) (sym c.symbol.ensures ∙ c.in_err-sign.was))
+    (begins_at is_digit _ _ false c.in_ok-first.ensures.value c.if-is_digit.ensures) (sym c.symbol.ensures ∙ c.in_err-sign.was))
