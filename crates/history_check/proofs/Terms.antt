@@ -1,20 +1,20 @@
 -- The values of terms of the right sort.
-use Rattle.std.proofs.Common.{◌≡◌, ◌≢◌, ℕ, zero, suc, ◌+◌, ◌<◌, ◌≤◌, ℤ, pos, negsuc, ◌+ℤ◌, neg_ℤ, ◌≤ℤ◌, Bool, true, false, ◌&&◌, ◌==◌, nat_lt, nat_le, if◌then◌else◌, List, [], ◌∷◌, map, length, get_or, Option, None, Some, slice_get, refl, sym, ap, ◌∙◌, arith}
+use Rattle.std.proofs.Common.{◌≡◌, ◌≢◌, ℕ, zero, suc, ◌<◌, ◌≤◌, ℤ, pos, ◌+ℤ◌, neg_ℤ, Bool, true, false, ◌&&◌, ◌==◌, nat_lt, nat_le, List, [], ◌∷◌, length, get_or, Option, None, Some, slice_get, refl, sym, ap, ◌∙◌, arith}
 use Rattle.std.specs.List.{list_all}
 use Rattle.std.specs.Option.{option_map, option_and_then}
 use Rattle.std.proofs.lemmas.Bool.{false≢true, and_parts, leb-true, ltb-true, cond-true}
 use Rattle.std.proofs.lemmas.Int.{ints}
-use Rattle.std.proofs.lemmas.Option.{none-some, same_Some}
+use Rattle.std.proofs.lemmas.Option.{none-some}
 use Rattle.trio_types.specs.declared.spec.Item.{Item}
 use Rattle.trio_types.specs.declared.formula.SignedTerm.{SignedTerm, out-SignedTerm}
 use Rattle.trio_types.specs.declared.formula.Term.{Term}
 use Rattle.trio_types.specs.declared.formula.Term.TheVariants as term
 use Rattle.trio_types.specs.World.{World}
-use Rattle.trio_types.specs.Cells.{Cell, cells_of, value_at, IsTable}
-use Rattle.trio_types.specs.Values.{value, item_value, indexes, sum_of, plus}
-use Rattle.trio_types.specs.WellFormed.{Sort, wrong, written, signed, truth_value, is_written, is_distance, is_truth_value, sort_if, sum_sort, sort_of, item_fits}
-use Rattle.trio_types.proofs.Equations.{value-Read, value-Sum, signed_value, signed_sort, sort_of-Number, sort_of-Value, sort_of-Read, sort_of-Read_args, sort_of-Sum}
-use Rattle.trio_types.proofs.Lists.{each_of}
+use Rattle.trio_types.specs.Cells.{cells_of, value_at, IsTable}
+use Rattle.trio_types.specs.Values.{value, item_value, indexes, plus}
+use Rattle.trio_types.specs.WellFormed.{Sort, wrong, written, signed, truth_value, is_written, is_distance, is_truth_value, sort_if, sort_of, item_fits}
+use Rattle.trio_types.proofs.Equations.{value-Read, value-Sum, sort_of-Number, sort_of-Value, sort_of-Read, sort_of-Read_args, sort_of-Sum}
+use Rattle.trio_types.proofs.Lists.{each_of, get_within}
 use Rattle.trio_types.proofs.CellNumbers.{cell, entry_is_value, no_args}
 
 if_right : (b : Bool) (s : Sort) → sort_if b s ≢ wrong → b ≡ true
@@ -38,7 +38,7 @@ pub one_part : (items : ℕ) (parts : List SignedTerm) → sort_of items (term.S
 one_part items [] right = absurd (right (sort_of-Sum items []))
 one_part items (p ∷ []) right =
     let both = and_parts (out-SignedTerm p).minus (is_written (sort_of items (out-SignedTerm p).term))
-        (if_right ((out-SignedTerm p).minus && is_written (sort_of items (out-SignedTerm p).term)) signed (λ e. right (sort_of-Sum items (p ∷ []) ∙ e))) in
+    (if_right ((out-SignedTerm p).minus && is_written (sort_of items (out-SignedTerm p).term)) signed (λ e. right (sort_of-Sum items (p ∷ []) ∙ e))) in
     (p, refl, both.0, both.1)
 one_part items (p ∷ q ∷ ps) right = absurd (right (sort_of-Sum items (p ∷ q ∷ ps)))
 
@@ -65,13 +65,8 @@ opposite_value w p t i z minus is =
 pub read_value : (w : World) (k : ℕ) (t : List ℕ) (i n v : ℕ) → list_all item_fits w.items ≡ true → k < length w.items → IsTable w t →
     slice_get (cells_of w) n ≡ Some (cell k [] i) → slice_get t n ≡ Some v → value w (term.Read k []) [] t i ≡ Some (pos v)
 read_value w k t i n v fits inside table at entry =
-    value-Read w k [] [] t i ∙ of_item (slice_get w.items k) (λ item is. no_args item (each_of item_fits w.items fits k item is)) (some w.items k inside)
+    value-Read w k [] [] t i ∙ of_item (slice_get w.items k) (λ item is. no_args item (each_of item_fits w.items fits k item is)) (get_within w.items k inside)
   where
-    some : (items : List Item) (n : ℕ) → n < length items → (item : Item) × (slice_get items n ≡ Some item)
-    some [] n inside = absurd (omega arith)
-    some (item ∷ items) zero inside = (item, refl)
-    some (item ∷ items) (suc n) inside = some items n (omega arith)
-
     of_item : (o : Option Item) → ((item : Item) → o ≡ Some item → item.args ≡ []) → (item : Item) × (o ≡ Some item) → item_value w k o [] t i ≡ Some (pos v)
     of_item None none is = absurd (none-some is.0 is.1)
     of_item (Some item) none is =
@@ -88,6 +83,9 @@ pub part_right : (items : ℕ) (parts : List SignedTerm) (k : ℕ) (x : SignedTe
     (k ≡ 0) × (parts ≡ x ∷ []) × ((out-SignedTerm x).minus ≡ true) × (sort_of items (out-SignedTerm x).term ≢ wrong)
 part_right items parts k x right inside at =
     let p = one_part items parts right in
-    let o = only_part parts p.0 k x p.1 inside at in
-    (o.0, p.1 ∙ ap (λ q. q ∷ []) (sym o.1), ap (λ q. (out-SignedTerm q).minus) o.1 ∙ p.2,
-    written_right (sort_of items (out-SignedTerm x).term) (ap (λ q. is_written (sort_of items (out-SignedTerm q).term)) o.1 ∙ p.3))
+    let o = only_part parts p.0 k x p.1 inside at in (
+      o.0,
+      p.1 ∙ ap (λ q. q ∷ []) (sym o.1),
+      ap (λ q. (out-SignedTerm q).minus) o.1 ∙ p.2,
+      written_right (sort_of items (out-SignedTerm x).term) (ap (λ q. is_written (sort_of items (out-SignedTerm q).term)) o.1 ∙ p.3),
+    )

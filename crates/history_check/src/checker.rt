@@ -21,7 +21,8 @@ pub enum Verdict {
     False(u32, u32),
 }
 
-/// The verdict of a table that fits the specification.
+/// The verdict of a table that fits the specification. It takes no memory; so many axioms that their numbers
+/// pass `u32::MAX` are answered as want of it.
 pub fn check(_alloc: Global, spec: &Spec, table: &Table) -> Result<Verdict, AllocError>
     requires fits { IsTable (world_of spec.now) table.now }
     ensures { IfOk result (λ v. v ≡ verdict_of (first_false spec.now table.now)) }

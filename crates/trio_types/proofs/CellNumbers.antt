@@ -15,7 +15,7 @@ use Rattle.trio_types.specs.declared.spec.Item.{Item}
 use Rattle.trio_types.specs.World.{World, size_of}
 use Rattle.trio_types.specs.Cells.{Cell, same_cell, instants_of, tuples, are_indexes, item_takes, takes, cells_of_item, cells_of, value_at, IsTable}
 use Rattle.trio_types.specs.WellFormed.{item_fits, is_none}
-use Rattle.trio_types.proofs.Lists.{each_of, get_left, get_right, get_split, get_flat, map_some}
+use Rattle.trio_types.proofs.Lists.{each_of, get_within, get_left, get_right, get_split, get_flat, map_some}
 
 -- elements at two places are told apart by a mark
 record Once {A K : Type 0} (mark : A → K) (xs : List A) : Type 0 where
@@ -76,9 +76,6 @@ once_enumerate : {X : Type 0} (a : ℕ) (xs : List X) → Once (λ p. p.0) (enum
 once_enumerate a xs = record { once = λ k l x y at bt same. omega (arith, at_enumerate a xs k x at, at_enumerate a xs l y bt) }
 
 -- tuples
-head : List ℕ → ℕ
-head vs = slice_index_or vs 0 0
-
 pair_tail : (v : ℕ) (xs ys : List ℕ) → v ∷ xs ≡ v ∷ ys → xs ≡ ys
 pair_tail v xs ys e = cc
 
@@ -184,13 +181,8 @@ takes_none w args number fits is = of_item (slice_get w.items number) (λ item a
 
 -- and it may have them
 pub may_take_none : (w : World) (number : ℕ) → list_all item_fits w.items ≡ true → number < length w.items → takes w number [] ≡ true
-may_take_none w number fits inside = of_item (slice_get w.items number) (λ item at. no_args item (each_of item_fits w.items fits number item at)) (some w.items number inside)
+may_take_none w number fits inside = of_item (slice_get w.items number) (λ item at. no_args item (each_of item_fits w.items fits number item at)) (get_within w.items number inside)
   where
-    some : (items : List Item) (n : ℕ) → n < length items → (item : Item) × (slice_get items n ≡ Some item)
-    some [] n inside = absurd (omega arith)
-    some (item ∷ items) zero inside = (item, refl)
-    some (item ∷ items) (suc n) inside = some items n (omega arith)
-
     of_item : (o : Option Item) → ((item : Item) → o ≡ Some item → item.args ≡ []) → (item : Item) × (o ≡ Some item) → item_takes w o [] ≡ true
     of_item None none at = absurd (none-some at.0 at.1)
     of_item (Some item) none at = ap (λ ds. are_indexes w.domains ds []) (none item refl)

@@ -123,3 +123,9 @@ get_flat f (x ∷ xs) k y is =
     ⊎_elim (λ l. (0, x, k, refl, l.1))
     (λ r. let w = get_flat f xs r.0 y r.2 in (suc w.0, w.1, w.2, w.3, w.4))
     (get_split (f x) (flat_map f xs) k y is)
+
+-- inside a list there is an element
+pub get_within : {X : Type 0} (xs : List X) (n : ℕ) → n < length xs → (x : X) × (slice_get xs n ≡ Some x)
+get_within [] n inside = absurd (omega arith)
+get_within (x ∷ xs) zero inside = (x, refl)
+get_within (x ∷ xs) (suc n) inside = get_within xs n (omega arith)

@@ -1,3 +1,4 @@
+//! Terms and formulas.
 use sqlite_items::Boxed;
 use trio_base::List;
 

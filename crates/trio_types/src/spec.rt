@@ -1,3 +1,4 @@
+//! Specifications, with their domains, items, axioms and goals.
 ghost use Rattle.trio_types.specs.WellFormed.{is_well_formed};
 ghost use Rattle.std.specs.Prelude.{IsTrue};
 

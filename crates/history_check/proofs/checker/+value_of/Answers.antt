@@ -1,7 +1,8 @@
-use Rattle.std.proofs.Common.{◌≡◌, ◌<◌, ℕ, ℤ, pos, negsuc, ◌+ℤ◌, neg_ℤ, ◌≤ℤ◌, [], to_z, of_z, w64, refl, length, Some, sym, ap, ◌∙◌, arith, rules}
+-- The answers to the goals of `value_of`.
+use Rattle.std.proofs.Common.{◌≡◌, pos, ◌+ℤ◌, neg_ℤ, [], to_z, of_z, w64, refl, length, Some, sym, ap, ◌∙◌, arith, rules}
 use Rattle.std.proofs.lemmas.Int.{ints}
 use Rattle.std.proofs.lemmas.Option.{slice_get_within}
-use Rattle.trio_types.specs.Cells.{cells_of, takes}
+use Rattle.trio_types.specs.Cells.{cells_of}
 use Rattle.trio_types.specs.Verdict.{world_of}
 use Rattle.trio_types.specs.WellFormed.{sort_of}
 use Rattle.trio_types.proofs.CellNumbers.{may_take_none, cell}
@@ -43,7 +44,7 @@ pub value_of-value-requires : goal.value_of-value-requires
 value_of-value-requires t c =
     let n = length c.args.spec.now.items in
     let p = part_right n c.as_slice-part-items.result.now c.loop-part.part-index c.part-item.result
-        (λ e. c.requires.term_fits (ap (sort_of n) c.loop-part.invariant.term_is ∙ e)) c.loop-part-test.true c.part-item.is in
+    (λ e. c.requires.term_fits (ap (sort_of n) c.loop-part.invariant.term_is ∙ e)) c.loop-part-test.true c.part-item.is in
     (search (ints, rules, the_lemmas), (c.requires.table_fits, (p.3, c.requires.instant_in)))
 
 pub loop-part-preserved : goal.loop-part-preserved
@@ -52,9 +53,9 @@ loop-part-preserved t c =
     let n = length c.args.spec.now.items in
     let v = c.value_of-value.result in
     let p = part_right n c.as_slice-part-items.result.now c.loop-part.part-index c.part-item.result
-        (λ e. c.requires.term_fits (ap (sort_of n) c.loop-part.invariant.term_is ∙ e)) c.loop-part-test.true c.part-item.is in
+    (λ e. c.requires.term_fits (ap (sort_of n) c.loop-part.invariant.term_is ∙ e)) c.loop-part-test.true c.part-item.is in
     let opposite : c.if-part.sum ≡ neg_ℤ v =
-        elim c.if-part.branch [ then-part b ↦ omega (arith, ints, b.sum-is) | else-part b ↦ absurd (false≢true (sym b.if-part.false ∙ p.2)) ] in
+    elim c.if-part.branch [ then-part b ↦ omega (arith, ints, b.sum-is) | else-part b ↦ absurd (false≢true (sym b.if-part.false ∙ p.2)) ] in
     let none : c.loop-part.sum ≡ pos 0 = sym c.loop-part.sum-is ∙ c.loop-part.invariant.before p.0 in
     let e : neg_ℤ v ≡ to_z w64 (of_z w64 (to_z w64 c.loop-part.sum-bits +ℤ to_z w64 c.if-part.sum-bits)) = omega (arith, ints) in
     record {

@@ -1,3 +1,4 @@
+-- What the loop of `value_of` keeps, and its measure.
 use Rattle.std.proofs.Common.{◌≡◌, ◌<◌, pos, negsuc, ◌≤ℤ◌, [], Some}
 use Rattle.trio_types.specs.declared.formula.Term.TheVariants as term
 use Rattle.trio_types.specs.Values.{value}

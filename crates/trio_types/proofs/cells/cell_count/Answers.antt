@@ -1,3 +1,4 @@
+-- The answers to the goals of `cell_count`.
 use Rattle.std.proofs.Common.{◌*◌, sym, ap, ◌∙◌}
 use Rattle.trio_types.specs.Verdict.{world_of}
 use Rattle.trio_types.proofs.CellNumbers.{count_is}

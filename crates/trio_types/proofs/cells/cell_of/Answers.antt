@@ -1,3 +1,4 @@
+-- The answers to the goals of `cell_of`.
 use Rattle.std.proofs.Common.{Some, sym, ap, ◌∙◌}
 use Rattle.trio_types.specs.Verdict.{world_of}
 use Rattle.trio_types.proofs.CellNumbers.{number_is, takes_none, cell}

@@ -1,3 +1,4 @@
+-- The answers to the goals of `connectives_are_classical`.
 use Rattle.std.proofs.Common.{◌≡◌, Bool, true, false, not, ◌||◌, refl, sym, ◌∙◌}
 use Rattle.std.proofs.lemmas.Bool.{not-true, not_from_false}
 use Rattle.trio_types.proofs.Equations.{truth-Not, truth-And, truth-Or, truth-Implies}

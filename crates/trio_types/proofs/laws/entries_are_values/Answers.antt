@@ -1,3 +1,4 @@
+-- The answers to the goals of `entries_are_values`.
 use Rattle.trio_types.proofs.CellNumbers.{entry_is_value}
 use Rattle.trio_types.proofs.laws.entries_are_values.Goals as goal
 

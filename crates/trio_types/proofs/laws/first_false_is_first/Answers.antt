@@ -1,3 +1,4 @@
+-- The answers to the goals of `first_false_is_first`.
 use Rattle.trio_types.proofs.Verdicts.{found_is_first, first_is_found, none_is_true, true_is_none}
 use Rattle.trio_types.proofs.laws.first_false_is_first.Goals as goal
 
