@@ -1,8 +1,8 @@
 -- Where no declaration comes again the declared names are distinct.
-use Rattle.std.proofs.Common.{◌≡◌, ℕ, suc, ◌+◌, Bool, true, false, not, ◌&&◌, ◌||◌, List, [], ◌∷◌, ◌++◌, length, map, take, refl, sym, ap, ◌∙◌, append_assoc, arith}
+use Rattle.std.proofs.Common.{◌≡◌, ℕ, ◌+◌, Bool, true, false, not, List, [], ◌∷◌, ◌++◌, length, map, take, refl, sym, ap, ◌∙◌, append_assoc}
 use Rattle.std.specs.List.{flat_map, list_all, list_any, enumerate_from}
 use Rattle.std.specs.Str.{bytes_eq}
-use Rattle.std.proofs.lemmas.Bool.{and_parts, and_from, or_parts, not_from_false}
+use Rattle.std.proofs.lemmas.Bool.{and_parts, and_from, or_parts}
 use Rattle.std.proofs.lemmas.List.{map-append, take_at, length-append}
 use Rattle.std.proofs.lemmas.List.Folds.{list_any-append}
 use Rattle.trio_types.specs.WellFormed.{are_distinct}
@@ -12,7 +12,7 @@ use Rattle.trio_syntax.specs.declared.tree.SpecTree.{SpecTree}
 use Rattle.trio_reader.specs.Places.{Mention, unless}
 use Rattle.trio_reader.specs.Scope.{declarations, declared_names, is_among, repeated_places}
 use Rattle.trio_reader.proofs.Empty.{append_empty, unless_empty}
-use Rattle.trio_reader.proofs.Enumerated.{mention_of_item, mention_of_axiom, place_if_repeated, repeated_at}
+use Rattle.trio_reader.proofs.Enumerated.{mention_of_item, mention_of_axiom, repeated_at}
 
 names_of : List Mention → List (List ℕ)
 names_of ms = map (λ m. m.name) ms
@@ -48,10 +48,11 @@ none_equal front name [] is = (refl, refl)
 none_equal front name (m ∷ ms) is =
     let p = and_parts (not (is_among (front ++ name ∷ []) m.name)) (list_all (λ m. not (is_among (front ++ name ∷ []) m.name)) ms) is in
     let q = or_parts (is_among front m.name) (is_among (name ∷ []) m.name)
-        (sym (list_any-append (λ other. bytes_eq other m.name) front (name ∷ [])) ∙ not_false (is_among (front ++ name ∷ []) m.name) p.0) in
-    let r = none_equal front name ms p.1 in
-    (rw ((or_parts (bytes_eq name m.name) false q.1).0, r.0) refl,
-      and_from (not (is_among front m.name)) (list_all (λ m. not (is_among front m.name)) ms) (ap not q.0) r.1)
+    (sym (list_any-append (λ other. bytes_eq other m.name) front (name ∷ [])) ∙ not_false (is_among (front ++ name ∷ []) m.name) p.0) in
+    let r = none_equal front name ms p.1 in (
+      rw ((or_parts (bytes_eq name m.name) false q.1).0, r.0) refl,
+      and_from (not (is_among front m.name)) (list_all (λ m. not (is_among front m.name)) ms) (ap not q.0) r.1,
+    )
 
 distinct_from : (front : List (List ℕ)) (ms : List Mention) (names : List (List ℕ)) → names ≡ front ++ names_of ms →
     flat_map (repeats names) (enumerate_from (length front) ms) ≡ [] → (are_distinct (names_of ms) ≡ true) × Apart front ms
@@ -60,15 +61,16 @@ distinct_from front [] names whole clean = (refl, refl)
 distinct_from front (m ∷ ms) names whole clean =
     let p = append_empty (repeats names (length front, m)) (flat_map (repeats names) (enumerate_from (length front + 1) ms)) clean in
     let here : is_among front m.name ≡ false =
-        not_false (is_among front m.name)
-        (ap (λ ns. not (is_among ns m.name)) (sym (ap (take (length front)) whole ∙ take_at front (m.name ∷ names_of ms) (length front) refl))
-          ∙ unless_empty (not (is_among (take (length front) names) m.name)) m.place p.0) in
+    not_false (is_among front m.name)
+    (ap (λ ns. not (is_among ns m.name)) (sym (ap (take (length front)) whole ∙ take_at front (m.name ∷ names_of ms) (length front) refl))
+    ∙ unless_empty (not (is_among (take (length front) names) m.name)) m.place p.0) in
     let more : length (front ++ m.name ∷ []) ≡ length front + 1 = length-append front (m.name ∷ []) in
     let r = distinct_from (front ++ m.name ∷ []) ms names (whole ∙ sym (append_assoc front (m.name ∷ []) (names_of ms)))
-        (ap (λ n. flat_map (repeats names) (enumerate_from n ms)) more ∙ p.1) in
-    let s = none_equal front m.name ms r.1 in
-    (and_from (not (list_any (bytes_eq m.name) (names_of ms))) (are_distinct (names_of ms)) (ap not s.0) r.0,
-      and_from (not (is_among front m.name)) (list_all (λ m. not (is_among front m.name)) ms) (ap not here) s.1)
+    (ap (λ n. flat_map (repeats names) (enumerate_from n ms)) more ∙ p.1) in
+    let s = none_equal front m.name ms r.1 in (
+      and_from (not (list_any (bytes_eq m.name) (names_of ms))) (are_distinct (names_of ms)) (ap not s.0) r.0,
+      and_from (not (is_among front m.name)) (list_all (λ m. not (is_among front m.name)) ms) (ap not here) s.1,
+    )
 
 pub names_distinct : (tree : SpecTree) → repeated_places tree ≡ [] → are_distinct (declared_names tree) ≡ true
 unfolding repeats

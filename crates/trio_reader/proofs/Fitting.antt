@@ -1,9 +1,8 @@
 -- A formula of a tree without faults stands for one that fits.
-use Rattle.std.proofs.Common.{◌≡◌, ℕ, Bool, true, false, ◌&&◌, nat_le, List, [], ◌∷◌, ◌++◌, length, map, refl, sym, ap, subst, ◌∙◌}
+use Rattle.std.proofs.Common.{◌≡◌, ℕ, Bool, true, nat_le, List, [], ◌∷◌, ◌++◌, length, map, refl, sym, ap, subst, ◌∙◌}
 use denote.Hole.Holds.{Such}
 use Rattle.std.specs.List.{flat_map, list_all}
 use Rattle.std.proofs.lemmas.Bool.{and_parts, and_from}
-use Rattle.trio_types.specs.declared.formula.Formula.{Formula}
 use Rattle.trio_types.specs.WellFormed.{fits, two_or_more}
 use Rattle.trio_types.proofs.Equations.{fits-Lone, fits-Not, fits-And, fits-Or, fits-Implies, fits-Far}
 use Rattle.trio_syntax.specs.declared.tree.TermTree.{TermTree}
@@ -20,7 +19,7 @@ use Rattle.trio_reader.specs.Kinds.{may_stand_alone, may_be_distance, kind_of, r
 use Rattle.trio_reader.specs.Ranges.{large_among}
 use Rattle.trio_reader.specs.Erasure.{formula_of}
 use Rattle.trio_reader.proofs.Empty.{append_empty, unless_empty}
-use Rattle.trio_reader.proofs.Gathers.{Gathers, kinds_gather}
+use Rattle.trio_reader.proofs.Gathers.{kinds_gather}
 use Rattle.trio_reader.proofs.Placed.{large_gather}
 use Rattle.trio_reader.proofs.Sorts.{HasSort, Sorted, alone_sort, distance_sort, sorted}
 use Rattle.trio_reader.proofs.Erased.{formula-Atom, formula-Not, formula-And, formula-Or, formula-Implies, formula-Dist}
@@ -94,7 +93,7 @@ fits_and names es parts clean small =
     let p = and_parts (nat_le 2 (length (map has_parts fs))) (list_all (λ b. b) (map has_parts fs)) (sym (parts_at (open_formula.And fs) (formula.rolls-And fs)) ∙ parts) in
     rw (formula-And, fits-And)
     (and_from (two_or_more (map (fits (length names)) (map (formula_of names) fs))) (list_all (fits (length names)) (map (formula_of names) fs))
-      (two names fs p.0) (all_fit names es p.1 (sym ((kinds_gather names).at_and fs) ∙ clean) (sym (large_gather.at_and fs) ∙ small)))
+    (two names fs p.0) (all_fit names es p.1 (sym ((kinds_gather names).at_and fs) ∙ clean) (sym (large_gather.at_and fs) ∙ small)))
 
 fits_or : (names : List (List ℕ)) (es : List (Part names)) → Fits names (formula.Or (map (λ e. e.0) es))
 unfolding Fits
@@ -103,7 +102,7 @@ fits_or names es parts clean small =
     let p = and_parts (nat_le 2 (length (map has_parts fs))) (list_all (λ b. b) (map has_parts fs)) (sym (parts_at (open_formula.Or fs) (formula.rolls-Or fs)) ∙ parts) in
     rw (formula-Or, fits-Or)
     (and_from (two_or_more (map (fits (length names)) (map (formula_of names) fs))) (list_all (fits (length names)) (map (formula_of names) fs))
-      (two names fs p.0) (all_fit names es p.1 (sym ((kinds_gather names).at_or fs) ∙ clean) (sym (large_gather.at_or fs) ∙ small)))
+    (two names fs p.0) (all_fit names es p.1 (sym ((kinds_gather names).at_or fs) ∙ clean) (sym (large_gather.at_or fs) ∙ small)))
 
 all_formulas : (names : List (List ℕ)) (f : FormulaTree) → Fits names f
 all_formulas names = ind-FormulaTree (Fits names) (λ x y is. subst (λ z. Fits names (roll-FormulaTree z)) is (each y))

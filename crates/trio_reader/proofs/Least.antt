@@ -32,7 +32,7 @@ pub least_next : {A : Type 0} (f : A → List ℕ) (front : List ℕ) {items xs 
 least_next f front {items = items} same i x below is before item joined =
     joined ∙ rw (before, item, ← same) (sym (least-append (front ++ flat_map f (take i items)) (f x)))
     ∙ ap least (append_assoc front (flat_map f (take i items)) (f x)
-      ∙ ap (λ ys. front ++ ys) (ap (λ y. flat_map f (take i items) ++ f y) is ∙ sym (flat_map_next f items i x below) ∙ ap (λ zs. flat_map f (take (i + 1) zs)) same))
+    ∙ ap (λ ys. front ++ ys) (ap (λ y. flat_map f (take i items) ++ f y) is ∙ sym (flat_map_next f items i x below) ∙ ap (λ zs. flat_map f (take (i + 1) zs)) same))
 
 -- the loop has seen all items
 pub least_end : {A : Type 0} (f : A → List ℕ) (front : List ℕ) {items xs : List A} → items ≡ xs → {i : ℕ} → length items ≤ i → {first : Option ℕ} →

@@ -24,9 +24,9 @@ unfolding after
 first_of true k l = cond-true (nat_lt 0 (suc l)) (Some 0) None (lt-ltb 0 (suc l) (omega arith))
 first_of false k l = ⊎_elim
     (λ lt. cond-true (nat_lt (1 + k) (suc l)) (Some (1 + k)) None (lt-ltb (1 + k) (suc l) (omega arith)) ∙ ap Some (omega arith)
-      ∙ sym (ap after (cond-true (nat_lt k l) (Some k) None (lt-ltb k l lt))))
+    ∙ sym (ap after (cond-true (nat_lt k l) (Some k) None (lt-ltb k l lt))))
     (λ le. cond-false (nat_lt (1 + k) (suc l)) (Some (1 + k)) None (le-ltb (1 + k) (suc l) (omega arith))
-      ∙ sym (ap after (cond-false (nat_lt k l) (Some k) None (le-ltb k l le))))
+    ∙ sym (ap after (cond-false (nat_lt k l) (Some k) None (le-ltb k l le))))
     (cases_lt k l)
 
 position-cons : {A : Type 0} (p : A → Bool) (x : A) (xs : List A) → position p (x ∷ xs) ≡ cond (p x) (Some 0) (after (position p xs))

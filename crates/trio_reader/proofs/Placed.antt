@@ -1,11 +1,11 @@
 -- The names that are not declared and the numbers that are out of range, as a formula gathers them.
-use Rattle.std.proofs.Common.{◌≡◌, ℕ, Bool, true, false, not, if◌then◌else◌, List, [], ◌∷◌, ◌++◌, map, filter, take, nat_lt, nat_le, refl, ap, sym, ◌∙◌}
+use Rattle.std.proofs.Common.{◌≡◌, ℕ, Bool, true, false, not, if◌then◌else◌, List, [], ◌∷◌, map, filter, nat_lt, nat_le, refl, ap, sym, ◌∙◌}
 use Rattle.std.proofs.Math.Logic.{⊎_elim}
 use Rattle.std.proofs.lemmas.Bool.{cases_lt, lt-ltb, le-ltb, lt-leb, le-leb}
 use Rattle.std.proofs.lemmas.List.{map-append}
 use Rattle.std.proofs.lemmas.List.Elements.{filter-append}
 use Rattle.trio_syntax.specs.declared.tree.Written.{Written}
-use Rattle.trio_reader.specs.Places.{Mention, unless, names_in_term, names_in, numbers_in_term, numbers_in}
+use Rattle.trio_reader.specs.Places.{Mention, unless, names_in_term, numbers_in_term, numbers_in}
 use Rattle.trio_reader.specs.Scope.{is_among, unknown_among, unknown_in}
 use Rattle.trio_reader.specs.Ranges.{large_among}
 use Rattle.trio_reader.proofs.Gathers.{Gathers, Additive, gathers_by, names_gather, numbers_gather}

@@ -1,20 +1,10 @@
 -- A term of a tree without faults has the sort that its kind says.
-use Rattle.std.proofs.Common.{◌≡◌, ℕ, zero, suc, ◌+◌, ◌*◌, ◌<◌, ◌≤◌, ◌≢◌, Bool, true, false, not, ◌&&◌, ◌||◌, ◌==◌, cond, if◌then◌else◌, nat_lt, nat_le, List, [], ◌∷◌, ◌++◌, length, map, filter, take, Option, None, Some, IsTrue, refl, sym, ap, subst, ◌∙◌, arith}
+use Rattle.std.proofs.Common.{◌≡◌, ℕ, Bool, true, false, ◌&&◌, ◌==◌, if◌then◌else◌, nat_lt, nat_le, List, [], ◌∷◌, length, Option, None, Some, refl, sym, ap, subst, ◌∙◌}
 use denote.Hole.Holds.{Such}
 use Rattle.std.proofs.Math.Seq.{take-length}
-use Rattle.std.specs.List.{flat_map, list_all, list_any, enumerate_from}
-use Rattle.std.specs.Option.{option_map, unwrap_or}
-use Rattle.std.proofs.Math.Logic.{⊎_elim}
-use Rattle.std.proofs.lemmas.Bool.{true≢false, and_parts, and_from, cases_lt, lt-ltb, le-ltb, lt-leb, le-leb, ltb-true, leb-true}
-use Rattle.trio_types.specs.declared.formula.FarOp.TheVariants as far
-use Rattle.trio_types.specs.declared.formula.SignedTerm.{SignedTerm, out-SignedTerm}
-use Rattle.trio_types.specs.declared.formula.Term.{Term}
-use Rattle.trio_types.specs.declared.formula.Term.TheViews.{the_lemmas}
-use Rattle.trio_types.specs.declared.formula.Term.TheVariants as term
-use Rattle.trio_types.specs.declared.formula.Formula.{Formula}
-use Rattle.trio_types.specs.declared.formula.Formula.TheVariants as formula
-use Rattle.trio_types.specs.WellFormed.{Sort, wrong, written, signed, truth_value, is_distance, is_truth_value, is_written, sort_if, sort_of, fits, two_or_more, is_distance_term}
-use Rattle.trio_types.proofs.Equations.{signed_sort, sort_of-Number, sort_of-Value, sort_of-Read, sort_of-Sum, fits-Lone, fits-Not, fits-And, fits-Or, fits-Implies, fits-Far}
+use Rattle.std.specs.Option.{unwrap_or}
+use Rattle.trio_types.specs.WellFormed.{Sort, wrong, written, signed, truth_value, is_distance, is_truth_value, is_written, sort_if, sort_of}
+use Rattle.trio_types.proofs.Equations.{sort_of-Number, sort_of-Value, sort_of-Read, sort_of-Sum}
 use Rattle.trio_syntax.specs.declared.tree.TermTree.{TermTree}
 use Rattle.trio_syntax.specs.declared.tree.TermTree.TheVariants as term_tree
 use Rattle.trio_syntax.specs.declared.tree.TermTree.TheOpen.{TermTree-F}
@@ -24,12 +14,12 @@ use Rattle.trio_syntax.specs.declared.tree.TermTree.TheBlock.{the_family, member
 use Rattle.trio_syntax.specs.declared.tree.TermTree.TheViews.{roll-TermTree}
 use Rattle.trio_reader.specs.declared.kind.TermKind.{TermKind}
 use Rattle.trio_reader.specs.declared.kind.TermKind.TheVariants as kind
-use Rattle.trio_reader.specs.Places.{earlier, least, unless, numbers_in_term}
+use Rattle.trio_reader.specs.Places.{unless, numbers_in_term}
 use Rattle.trio_reader.specs.Scope.{is_among}
 use Rattle.trio_reader.specs.Numbers.{number_of}
 use Rattle.trio_reader.specs.Kinds.{may_stand_alone, may_be_part, may_be_distance, kind_of}
 use Rattle.trio_reader.specs.Ranges.{large_among}
-use Rattle.trio_reader.specs.Erasure.{item_number, subtracted, term_of}
+use Rattle.trio_reader.specs.Erasure.{item_number, term_of}
 use Rattle.trio_reader.proofs.Numbered.{is_below, among_first}
 use Rattle.trio_reader.proofs.Placed.{large_one}
 use Rattle.trio_reader.proofs.Empty.{append_empty, unless_empty}

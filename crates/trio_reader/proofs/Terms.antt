@@ -1,5 +1,5 @@
 -- The names, numbers and kinds of each form of a term.
-use Rattle.std.proofs.Common.{◌≡◌, ℕ, Bool, if◌then◌else◌, List, [], ◌∷◌, ◌++◌, refl, ap, sym, ◌∙◌}
+use Rattle.std.proofs.Common.{◌≡◌, ℕ, Bool, if◌then◌else◌, List, [], ◌∷◌, ◌++◌, ap, sym, ◌∙◌}
 use Rattle.trio_syntax.specs.declared.tree.Written.{Written}
 use Rattle.trio_syntax.specs.declared.tree.TermTree.{TermTree}
 use Rattle.trio_syntax.specs.declared.tree.TermTree.TheVariants as term

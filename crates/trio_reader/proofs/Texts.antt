@@ -1,6 +1,5 @@
 -- A text is one tree at most, and has one first fault at most.
-use Rattle.std.proofs.Common.{◌≡◌, ◌≢◌, ℕ, true, List, Option, None, Some, refl, sym, ap, subst, ◌∙◌}
-use Rattle.std.specs.Option.{option_map}
+use Rattle.std.proofs.Common.{◌≡◌, ◌≢◌, ℕ, List, None, Some, refl, sym, ap, subst, ◌∙◌}
 use Rattle.std.proofs.lemmas.Option.{none-some}
 use Rattle.trio_types.specs.declared.spec.Spec.{Spec}
 use Rattle.trio_text.specs.declared.token.Token.{Token}
@@ -18,7 +17,6 @@ use Rattle.trio_syntax.proofs.Parts.{parts_read}
 use Rattle.trio_syntax.proofs.Names.{names_read}
 use Rattle.trio_reader.specs.declared.fault.TextFault.{TextFault}
 use Rattle.trio_reader.specs.declared.fault.TextFault.TheVariants as fault
-use Rattle.trio_reader.specs.declared.fault.Which.{Which}
 use Rattle.trio_reader.specs.Erasure.{IsSpecOf}
 use Rattle.trio_reader.specs.Reading.{tree_fault, IsShallow, IsTreeText, IsSpecText, HasFault}
 use Rattle.trio_reader.specs.Sound.{IsSound}
@@ -107,7 +105,7 @@ one text f g (syntax_ k tokens js s hat) (lex j is has) = absurd (fault_or_token
 one text f g (syntax_ k b js s hat) (deep j a is lexed has) = absurd (deep_shallow text j a b lexed has s)
 one text f g (syntax_ j a is s has) (syntax_ k b js r hat) =
     is ∙ ap fault.Syntax (one_syntax_fault IsSpec (lexemes_of text a) j k has
-      (subst (λ ls. IsSyntaxFault IsSpec ls k) (same_tokens text b a r.lexed s.lexed) hat)) ∙ sym js
+    (subst (λ ls. IsSyntaxFault IsSpec ls k) (same_tokens text b a r.lexed s.lexed) hat)) ∙ sym js
 one text f g (tree_ tree read has) later = some_same f g (sym has ∙ no_tree text g tree later read)
 one text f g first (tree_ tree read has) = some_same f g (sym (no_tree text f tree first read) ∙ has)
 

@@ -1,9 +1,8 @@
 -- A tree that the grammar reads and that has no fault stands for a well-formed specification.
-use Rattle.std.proofs.Common.{◌≡◌, ℕ, ◌*◌, ◌<◌, ◌≤◌, ◌^◌, Bool, true, false, not, ◌&&◌, cond, nat_lt, nat_le, List, [], ◌∷◌, ◌++◌, length, map, Option, None, Some, refl, sym, ap, subst, ◌∙◌, arith}
+use Rattle.std.proofs.Common.{◌≡◌, ℕ, ◌*◌, ◌≤◌, Bool, true, false, ◌&&◌, cond, nat_lt, nat_le, List, [], ◌∷◌, ◌++◌, length, map, Option, None, Some, refl, sym, ap, subst, ◌∙◌}
 use Rattle.std.specs.List.{flat_map, list_all}
 use Rattle.std.specs.Option.{option_map}
-use Rattle.std.proofs.Math.Logic.{⊎_elim}
-use Rattle.std.proofs.lemmas.Bool.{and_parts, and_from, cases_Bool, cond-true, ltb-false, le-leb, leb-true}
+use Rattle.std.proofs.lemmas.Bool.{and_parts, and_from, ltb-false, le-leb}
 use Rattle.std.proofs.lemmas.List.{append-nil, length-map}
 use Rattle.trio_base.specs.Names.{is_name}
 use Rattle.trio_types.specs.declared.spec.Domain.{Domain}
@@ -24,7 +23,7 @@ use Rattle.trio_reader.specs.Scope.{item_names, declared_names, unknown_places, 
 use Rattle.trio_reader.specs.Kinds.{kind_places_in, kind_places}
 use Rattle.trio_reader.specs.Ranges.{at_places, large_among, axiom_ranges, range_places, count_fault}
 use Rattle.trio_reader.specs.Erasure.{item_of, axiom_of, formula_of, bool_domain}
-use Rattle.trio_reader.specs.Reading.{or_later, tree_fault}
+use Rattle.trio_reader.specs.Reading.{tree_fault}
 use Rattle.trio_reader.specs.Sound.{IsSound}
 use Rattle.trio_reader.proofs.Empty.{append_empty, unless_empty, least_none, none_mapped, no_fault}
 use Rattle.trio_reader.proofs.Fitting.{formula_fits}
@@ -78,9 +77,9 @@ few_items tree s = (small tree (clean tree s.sound).counts).few_items
 limits : (tree : SpecTree) (n : ℕ) → n ≡ length tree.items → IsSmall tree → meets_limits tree.instants n ≡ true
 limits tree n is s =
     rw (is) (and_from (nat_le (length tree.items) 256) (nat_le (length tree.items * tree.instants) 1024 && nat_le (2 * (length tree.items * tree.instants)) 4096)
-      (le-leb (length tree.items) 256 s.few_items)
-      (and_from (nat_le (length tree.items * tree.instants) 1024) (nat_le (2 * (length tree.items * tree.instants)) 4096)
-        (le-leb (length tree.items * tree.instants) 1024 s.few_cells) (le-leb (2 * (length tree.items * tree.instants)) 4096 s.few_values)))
+    (le-leb (length tree.items) 256 s.few_items)
+    (and_from (nat_le (length tree.items * tree.instants) 1024) (nat_le (2 * (length tree.items * tree.instants)) 4096)
+    (le-leb (length tree.items * tree.instants) 1024 s.few_cells) (le-leb (2 * (length tree.items * tree.instants)) 4096 s.few_values)))
 
 -- items and axioms
 items_fit : (items : List ItemTree) → list_all item_fits (map item_of items) ≡ true
@@ -102,7 +101,7 @@ axioms_fit instants names (a ∷ axioms) parts kinds ranges =
     let s = append_empty (at_places instants a.at) (large_among (numbers_in a.formula)) r.0 in
     and_from (axiom_fits instants (length names) (axiom_of names a)) (list_all (axiom_fits instants (length names)) (map (axiom_of names) axioms))
     (and_from (instant_fits instants (option_map (λ k. k.number) a.at)) (fits (length names) (formula_of names a.formula))
-      (instant_fit instants a.at s.0) (formula_fits names a.formula p.0 k.0 s.1))
+    (instant_fit instants a.at s.0) (formula_fits names a.formula p.0 k.0 s.1))
     (axioms_fit instants names axioms p.1 k.1 r.1)
 
 item_called : (items : List ItemTree) → map (λ (item : Item). item.name) (map item_of items) ≡ map (λ (item : ItemTree). item.name) items
@@ -134,11 +133,11 @@ well_formed tree s domains items axioms goals d i a g =
     (and_from (is_bool_alone (bool_domain ∷ [])) _ refl
     (and_from (list_all item_fits (map item_of tree.items)) _ (items_fit tree.items)
     (and_from (list_all (axiom_fits tree.instants (length (map item_of tree.items))) (map (axiom_of (item_names tree)) tree.axioms)) _
-      (subst (λ m. list_all (axiom_fits tree.instants m) (map (axiom_of (item_names tree)) tree.axioms) ≡ true) same
-        (axioms_fit tree.instants (item_names tree) tree.axioms s.parts c.kinds r.1))
+    (subst (λ m. list_all (axiom_fits tree.instants m) (map (axiom_of (item_names tree)) tree.axioms) ≡ true) same
+    (axioms_fit tree.instants (item_names tree) tree.axioms s.parts c.kinds r.1))
     (and_from true _ refl
     (and_from (list_all is_name (formed.declared_names (map item_of tree.items) (map (axiom_of (item_names tree)) tree.axioms) [])) _
-      (ap (list_all is_name) (called tree) ∙ s.names)
+    (ap (list_all is_name) (called tree) ∙ s.names)
     (and_from (are_distinct (formed.declared_names (map item_of tree.items) (map (axiom_of (item_names tree)) tree.axioms) [])) _
-      (ap are_distinct (called tree) ∙ names_distinct tree c.repeated)
-      (limits tree (length (map item_of tree.items)) few (small tree c.counts))))))))))
+    (ap are_distinct (called tree) ∙ names_distinct tree c.repeated)
+    (limits tree (length (map item_of tree.items)) few (small tree c.counts))))))))))

@@ -1,5 +1,5 @@
 -- The specification of a tree: places and brackets leave no trace, names of items become their numbers.
-use Rattle.std.specs.Prelude.{◌≡◌, ℕ, Bool, true, if◌then◌else◌, List, [], ◌∷◌, Option, map, position, codes}
+use Rattle.std.specs.Prelude.{◌≡◌, ℕ, true, if◌then◌else◌, List, [], ◌∷◌, map, position, codes}
 use Rattle.std.specs.Option.{option_map, unwrap_or}
 use Rattle.std.specs.Str.{bytes_eq}
 use Rattle.trio_types.specs.declared.spec.DomainKind.TheVariants as kind

@@ -1,5 +1,5 @@
 -- Which numbers are out of range, and which counts are above their limits.
-use Rattle.std.specs.Prelude.{ℕ, ◌*◌, Bool, ◌&&◌, nat_lt, nat_le, if◌then◌else◌, List, [], ◌∷◌, ◌++◌, length, map, filter, Option, None, Some}
+use Rattle.std.specs.Prelude.{ℕ, ◌*◌, ◌&&◌, nat_lt, nat_le, if◌then◌else◌, List, [], ◌++◌, length, map, filter, Option, None, Some}
 use Rattle.std.specs.List.{flat_map}
 use Rattle.trio_syntax.specs.declared.tree.Written.{Written}
 use Rattle.trio_syntax.specs.declared.tree.AxiomTree.{AxiomTree}

@@ -1,5 +1,5 @@
 -- Which names a text declares, which uses of a name no declaration precedes, and which declarations come again.
-use Rattle.std.specs.Prelude.{ℕ, ◌+◌, Bool, not, List, [], ◌∷◌, ◌++◌, length, map, filter, take}
+use Rattle.std.specs.Prelude.{ℕ, ◌+◌, Bool, not, List, ◌++◌, length, map, filter, take}
 use Rattle.std.specs.List.{list_any, flat_map, enumerate_from}
 use Rattle.std.specs.Str.{bytes_eq}
 use Rattle.trio_syntax.specs.declared.tree.FormulaTree.{FormulaTree}

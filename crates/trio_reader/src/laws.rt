@@ -5,17 +5,14 @@ ghost use Rattle.trio_reader.specs.Laws.{OneSpecification, OneFault, FaultyIsNon
 /// A text is one specification at most.
 pub fn text_has_one_specification()
     ensures { OneSpecification }
-{
-}
+{}
 
 /// A text has one first fault at most.
 pub fn text_has_one_fault()
     ensures { OneFault }
-{
-}
+{}
 
 /// A text with a fault is no specification.
 pub fn faulty_text_is_no_specification()
     ensures { FaultyIsNone }
-{
-}
+{}

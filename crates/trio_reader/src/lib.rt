@@ -12,10 +12,10 @@ mod ranges;
 mod reading;
 mod repeated;
 mod scope;
+#[cfg(test)]
+mod tests;
 mod unknown;
 
 pub use fault::SpecFault;
-pub use laws::{
-    faulty_text_is_no_specification, text_has_one_fault, text_has_one_specification,
-};
+pub use laws::{faulty_text_is_no_specification, text_has_one_fault, text_has_one_specification};
 pub use reading::read_spec;

@@ -25,7 +25,7 @@ pub fn read_spec(alloc: Global, text: &[u8]) -> Result<Spec, SpecFault>
 }
 
 /// The specification that a text is, or its first fault.
-fn read_placed(alloc: Global, text: &[u8]) -> Result<Spec, TextFault>
+pub fn read_placed(alloc: Global, text: &[u8]) -> Result<Spec, TextFault>
     ensures { IsAnswer text.now result }
 {
     let tree = tree_of(alloc, text)?;

@@ -16,10 +16,7 @@ pub fn first_unknown(scope: &Scope<'_>) -> Option<usize>
     let items = scope.tree.items.as_slice().len();
     let mut first = None;
     for (number, axiom) in scope.tree.axioms.as_slice().iter().enumerate() {
-        first = earlier(
-            first,
-            in_formula(scope, items + number + 1, &axiom.formula),
-        );
+        first = earlier(first, in_formula(scope, items + number + 1, &axiom.formula));
     }
     first
 }

@@ -1,12 +1,11 @@
 -- What holds at the exits of a function that reads a part, by what the last call answered.
-use Rattle.std.proofs.Common.{◌≡◌, ℕ, ◌+◌, Bool, true, false, List, [], ◌∷◌, ◌++◌, length, refl, sym, ap, subst, ◌∙◌, arith, Result, Ok, Err}
+use Rattle.std.proofs.Common.{◌≡◌, ℕ, ◌+◌, Bool, List, [], length, refl, sym, ap, subst, arith, Result, Ok, Err}
 use Rattle.std.specs.Result.{IsErrAnd}
 use Rattle.trio_text.specs.declared.lexeme.Lexeme.{Lexeme}
 use Rattle.trio_syntax.specs.declared.refusal.Refusal.{Refusal}
 use Rattle.trio_syntax.specs.declared.refusal.Refusal.TheVariants as refusal
 use Rattle.trio_syntax.specs.Reading.{Language}
-use Rattle.trio_syntax.specs.Exact.{Stops, Lacks, Alike, Reads, Stuck, Exact, Taken}
-use Rattle.trio_syntax.specs.Parts.{nothing}
+use Rattle.trio_syntax.specs.Exact.{Lacks, Reads, Stuck, Exact, Taken}
 use Rattle.trio_syntax.proofs.Rest.{IsIn, Left, left_read, left_stuck, Led, left_led, stuck_led, Nil, reads_nil, is_in_self}
 
 stuck_exact : {A : Type 0} (P : Language A) (K : Lexeme → Bool) (before after : List Lexeme) (r : Result A Refusal) (e : Refusal) →
@@ -27,8 +26,8 @@ pub not_taken : {A B : Type 0} (P : Language A) (K : Lexeme → Bool) (token : B
 not_taken P K token before middle after r e same taken goes_on =
     stuck_exact P K before after r e same
     (λ is.
-        let left = subst (λ y. Taken token middle after (Err y)) is taken in
-        subst (λ y. Stuck P K before y) (sym left.0) (goes_on left.1))
+    let left = subst (λ y. Taken token middle after (Err y)) is taken in
+    subst (λ y. Stuck P K before y) (sym left.0) (goes_on left.1))
 
 -- the last call, whose answer is returned as it is
 pub left_exact : {A : Type 0} (P : Language A) (K : Lexeme → Bool) (Q : Language A) (J : Lexeme → Bool) (before middle after : List Lexeme) (r : Result A Refusal) →

@@ -1,5 +1,5 @@
 -- Where a list of tokens has a fault it is no text, and it has one first fault only.
-use Rattle.std.proofs.Common.{◌≡◌, ℕ, ◌+◌, ◌<◌, ◌≤◌, ◌⊎◌, inl, inr, ⊎_elim, List, ◌++◌, length, take, drop, refl, sym, ap, subst, ◌∙◌, append_assoc, arith}
+use Rattle.std.proofs.Common.{◌≡◌, ℕ, ◌+◌, ◌<◌, ◌≤◌, ◌⊎◌, ⊎_elim, List, ◌++◌, length, take, drop, sym, ap, subst, ◌∙◌, append_assoc, arith}
 use Rattle.std.proofs.lemmas.List.{take-append-drop, take-take}
 use Rattle.std.proofs.lemmas.Bool.{cases_order}
 use Rattle.trio_text.specs.declared.lexeme.Lexeme.{Lexeme}
@@ -10,14 +10,14 @@ begins_less : {A : Type 0} (P : Language A) (tokens : List Lexeme) (j k : ℕ) �
 begins_less P tokens j k less begins =
     let front = take k tokens in
     let same : take j tokens ++ (drop j front ++ begins.0) ≡ front ++ begins.0 =
-        sym (append_assoc (take j tokens) (drop j front) begins.0)
-        ∙ ap (λ (w : List Lexeme). (w ++ drop j front) ++ begins.0) (sym (take-take j k tokens less)) ∙ ap (λ (w : List Lexeme). w ++ begins.0) (take-append-drop j front) in
+    sym (append_assoc (take j tokens) (drop j front) begins.0)
+    ∙ ap (λ (w : List Lexeme). (w ++ drop j front) ++ begins.0) (sym (take-take j k tokens less)) ∙ ap (λ (w : List Lexeme). w ++ begins.0) (take-append-drop j front) in
     (drop j front ++ begins.0, begins.1, subst (λ (w : List Lexeme). P w begins.1) (sym same) begins.2)
 
 pub fault_no_tree : {A : Type 0} (P : Language A) (tokens : List Lexeme) (place : ℕ) (v : A) → IsSyntaxFault P tokens place → P tokens v → ⊥
 fault_no_tree P tokens place v fault p =
     let inside : place < length tokens → ⊥ =
-        λ less. fault.here less (drop (place + 1) tokens, v, subst (λ (w : List Lexeme). P w v) (sym (take-append-drop (place + 1) tokens)) p) in
+    λ less. fault.here less (drop (place + 1) tokens, v, subst (λ (w : List Lexeme). P w v) (sym (take-append-drop (place + 1) tokens)) p) in
     ⊎_elim
     (λ (h : place ≡ length tokens). fault.end h v p)
     (λ (h : (place < length tokens) ⊎ (length tokens < place)). ⊎_elim

@@ -1,5 +1,5 @@
 -- What is left of a formula behind each of its tokens.
-use Rattle.std.proofs.Common.{◌≡◌, ℕ, ◌+◌, ◌≤◌, ◌⊎◌, inl, inr, Bool, true, false, List, [], ◌∷◌, ◌++◌, length, refl, sym, ap, subst, ◌∙◌, append_assoc, arith, length-append}
+use Rattle.std.proofs.Common.{◌≡◌, ℕ, ◌+◌, ◌⊎◌, inl, inr, Bool, false, List, [], ◌∷◌, ◌++◌, length, refl, sym, ap, subst, ◌∙◌, append_assoc, arith, length-append}
 use Rattle.trio_text.specs.declared.lexeme.Lexeme.{Lexeme}
 use Rattle.trio_text.specs.declared.lexeme.Lexeme.TheVariants as lexeme
 use Rattle.trio_text.specs.declared.token.Reserved.TheVariants as reserved
@@ -9,9 +9,9 @@ use Rattle.trio_syntax.specs.declared.tree.FormulaTree.{FormulaTree}
 use Rattle.trio_syntax.specs.declared.tree.FormulaTree.TheVariants as formula
 use Rattle.trio_syntax.specs.Reading.{Language}
 use Rattle.trio_syntax.specs.Grammar.{IsTerm, IsFormula, alone, implies, IsDisj, one_conj, or, IsConj, one_unary, and, IsUnary, plain, negated, IsPrimary, round, distance, atom, and_of, or_of}
-use Rattle.trio_syntax.specs.Exact.{Stops, Lacks, Alike, Reads, Stuck}
+use Rattle.trio_syntax.specs.Exact.{Stops, Lacks, Alike, Stuck}
 use Rattle.trio_syntax.specs.Parts.{after_formula, after_disj, after_conj, nothing, Closed, IsDistance, distance_body}
-use Rattle.trio_syntax.proofs.Rest.{IsIn, nothing_in, Left, left_start, left_token, stuck_front, lacks_alike, next_place, Then, Some}
+use Rattle.trio_syntax.proofs.Rest.{nothing_in, Left, left_start, left_token, stuck_front, lacks_alike, next_place, Then, Some}
 use Rattle.trio_syntax.proofs.Tail.{Tailed, IsAlone, IsJoined}
 use Rattle.trio_syntax.proofs.Terms.{rank, Heads, term_heads, some_term}
 
@@ -48,7 +48,7 @@ formula_tailed = record {
   goes_on = refl;
   one = λ p y b d. alone d;
   two = λ p y z b c d e. implies d e;
-  cases = formula_cases
+  cases = formula_cases;
 }
 
 disj_cases : (p : ℕ) (x : List Lexeme) (a : List FormulaTree) → IsDisj p x a →
@@ -64,7 +64,7 @@ disj_tailed = record {
   goes_on = refl;
   one = λ p y b d. one_conj d;
   two = λ p y z b c d e. or d e;
-  cases = disj_cases
+  cases = disj_cases;
 }
 
 conj_cases : (p : ℕ) (x : List Lexeme) (a : List FormulaTree) → IsConj p x a →
@@ -80,7 +80,7 @@ conj_tailed = record {
   goes_on = refl;
   one = λ p y b d. one_unary d;
   two = λ p y z b c d e. and d e;
-  cases = conj_cases
+  cases = conj_cases;
 }
 
 pub primary_heads : {p : ℕ} {x : List Lexeme} {a : FormulaTree} → IsPrimary p x a → Heads 2 x
@@ -135,20 +135,23 @@ distance_back : {p : ℕ} {x : List Lexeme} {a : FormulaTree} → IsPrimary p x 
 distance_back (round {x = x} d) = (lexeme.Sign symbol.LeftRound, x ++ lexeme.Sign symbol.RightRound ∷ [], refl, λ same. cc)
 distance_back {p} (distance {x = x} {y = y} {f = f} {t = t} d e) =
     let one : p + 2 ≡ p + 1 + 1 = omega arith in
-    let two : p + length x + 3 ≡ p + 1 + length x + 2 = omega arith in
-    (lexeme.Word reserved.Dist, lexeme.Sign symbol.LeftRound ∷ x ++ lexeme.Sign symbol.Comma ∷ y ++ lexeme.Sign symbol.RightRound ∷ [], refl,
-    λ same. (formula.Dist f (p + 1 + length x + 2) t, distance_body (subst (λ n. IsFormula n x f) one d) (subst (λ n. IsTerm n y t) two e), ap (λ n. formula.Dist f n t) two))
+    let two : p + length x + 3 ≡ p + 1 + length x + 2 = omega arith in (
+      lexeme.Word reserved.Dist,
+      lexeme.Sign symbol.LeftRound ∷ x ++ lexeme.Sign symbol.Comma ∷ y ++ lexeme.Sign symbol.RightRound ∷ [],
+      refl,
+      λ same. (formula.Dist f (p + 1 + length x + 2) t, distance_body (subst (λ n. IsFormula n x f) one d) (subst (λ n. IsTerm n y t) two e), ap (λ n. formula.Dist f n t) two),
+    )
 distance_back (atom d) = let h = term_heads d in (h.token, h.tail, h.whole, λ same. absurd (omega (arith, h.is, ap rank same)))
 
 distance_into : {p : ℕ} (y : List Lexeme) (b : FormulaTree) → IsDistance (p + 1) y b → IsPrimary p (lexeme.Word reserved.Dist ∷ y) b
 distance_into {p} y b d = into (p + 1) y b refl d
   where
-  into : (q : ℕ) (z : List Lexeme) (a : FormulaTree) → q ≡ p + 1 → IsDistance q z a → IsPrimary p (lexeme.Word reserved.Dist ∷ z) a
-  into q z a same (distance_body {x = x} {y = w} {f = f} {t = t} d e) =
-      let one : q + 1 ≡ p + 2 = omega (arith, same) in
-      let two : q + length x + 2 ≡ p + length x + 3 = omega (arith, same) in
-      subst (λ n. IsPrimary p (lexeme.Word reserved.Dist ∷ lexeme.Sign symbol.LeftRound ∷ x ++ lexeme.Sign symbol.Comma ∷ w ++ lexeme.Sign symbol.RightRound ∷ []) (formula.Dist f n t)) (sym two)
-      (distance (subst (λ n. IsFormula n x f) one d) (subst (λ n. IsTerm n w t) two e))
+    into : (q : ℕ) (z : List Lexeme) (a : FormulaTree) → q ≡ p + 1 → IsDistance q z a → IsPrimary p (lexeme.Word reserved.Dist ∷ z) a
+    into q z a same (distance_body {x = x} {y = w} {f = f} {t = t} d e) =
+        let one : q + 1 ≡ p + 2 = omega (arith, same) in
+        let two : q + length x + 2 ≡ p + length x + 3 = omega (arith, same) in
+        subst (λ n. IsPrimary p (lexeme.Word reserved.Dist ∷ lexeme.Sign symbol.LeftRound ∷ x ++ lexeme.Sign symbol.Comma ∷ w ++ lexeme.Sign symbol.RightRound ∷ []) (formula.Dist f n t)) (sym two)
+        (distance (subst (λ n. IsFormula n x f) one d) (subst (λ n. IsTerm n w t) two e))
 
 pub left_dist : {p : ℕ} {K : Lexeme → Bool} {before after : List Lexeme} (q : ℕ) → before ≡ lexeme.Word reserved.Dist ∷ after → q + length after ≡ p + length before →
     Left (IsPrimary p) K before (IsDistance q) (λ f. f) after
@@ -176,17 +179,23 @@ IsFar p = Then (Closed (IsFormula p) (lexeme.Sign symbol.Comma)) (λ q. Closed (
 far_back : {p : ℕ} {x : List Lexeme} {a : FormulaTree} → IsDistance p x a →
     (u : Lexeme) × (y : List Lexeme) × (x ≡ u ∷ y) × (u ≡ lexeme.Sign symbol.LeftRound → (b : FormulaTree × ℕ × TermTree) × IsFar (p + 1) y b × (a ≡ formula.Dist b.0 b.1 b.2))
 far_back {p} (distance_body {x = x} {y = y} {f = f} {t = t} d e) =
-    let place : p + length x + 2 ≡ p + 1 + length (x ++ lexeme.Sign symbol.Comma ∷ []) = omega (arith, length-append x (lexeme.Sign symbol.Comma ∷ [])) in
-    (lexeme.Sign symbol.LeftRound, x ++ lexeme.Sign symbol.Comma ∷ y ++ lexeme.Sign symbol.RightRound ∷ [], refl,
-    λ same. ((f, p + length x + 2, t),
-    record {
-      first = x ++ lexeme.Sign symbol.Comma ∷ [];
-      second = y ++ lexeme.Sign symbol.RightRound ∷ [];
-      whole = append_assoc x (lexeme.Sign symbol.Comma ∷ y) (lexeme.Sign symbol.RightRound ∷ []) ∙ sym (append_assoc x (lexeme.Sign symbol.Comma ∷ []) (y ++ lexeme.Sign symbol.RightRound ∷ []));
-      place = place;
-      one = record { inner = x; whole = refl; reading = d };
-      two = record { inner = y; whole = refl; reading = e }
-    }, refl))
+    let place : p + length x + 2 ≡ p + 1 + length (x ++ lexeme.Sign symbol.Comma ∷ []) = omega (arith, length-append x (lexeme.Sign symbol.Comma ∷ [])) in (
+      lexeme.Sign symbol.LeftRound,
+      x ++ lexeme.Sign symbol.Comma ∷ y ++ lexeme.Sign symbol.RightRound ∷ [],
+      refl,
+      λ same. (
+        (f, p + length x + 2, t),
+        record {
+          first = x ++ lexeme.Sign symbol.Comma ∷ [];
+          second = y ++ lexeme.Sign symbol.RightRound ∷ [];
+          whole = append_assoc x (lexeme.Sign symbol.Comma ∷ y) (lexeme.Sign symbol.RightRound ∷ []) ∙ sym (append_assoc x (lexeme.Sign symbol.Comma ∷ []) (y ++ lexeme.Sign symbol.RightRound ∷ []));
+          place = place;
+          one = record { inner = x; whole = refl; reading = d };
+          two = record { inner = y; whole = refl; reading = e };
+        },
+        refl,
+      ),
+    )
 
 far_into : {p : ℕ} (y : List Lexeme) (b : FormulaTree × ℕ × TermTree) → IsFar (p + 1) y b → IsDistance p (lexeme.Sign symbol.LeftRound ∷ y) (formula.Dist b.0 b.1 b.2)
 far_into {p} y b far =
@@ -194,8 +203,8 @@ far_into {p} y b far =
     let z = far.two.inner in
     let place : b.1 ≡ p + length x + 2 = omega (arith, far.place, ap length far.one.whole, length-append x (lexeme.Sign symbol.Comma ∷ [])) in
     let whole : x ++ lexeme.Sign symbol.Comma ∷ z ++ lexeme.Sign symbol.RightRound ∷ [] ≡ y =
-        append_assoc x (lexeme.Sign symbol.Comma ∷ z) (lexeme.Sign symbol.RightRound ∷ []) ∙ sym (append_assoc x (lexeme.Sign symbol.Comma ∷ []) (z ++ lexeme.Sign symbol.RightRound ∷ []))
-        ∙ ap (λ (w : List Lexeme). w ++ (z ++ lexeme.Sign symbol.RightRound ∷ [])) (sym far.one.whole) ∙ ap (λ (w : List Lexeme). far.first ++ w) (sym far.two.whole) ∙ sym far.whole in
+    append_assoc x (lexeme.Sign symbol.Comma ∷ z) (lexeme.Sign symbol.RightRound ∷ []) ∙ sym (append_assoc x (lexeme.Sign symbol.Comma ∷ []) (z ++ lexeme.Sign symbol.RightRound ∷ []))
+    ∙ ap (λ (w : List Lexeme). w ++ (z ++ lexeme.Sign symbol.RightRound ∷ [])) (sym far.one.whole) ∙ ap (λ (w : List Lexeme). far.first ++ w) (sym far.two.whole) ∙ sym far.whole in
     subst (λ (w : List Lexeme). IsDistance p (lexeme.Sign symbol.LeftRound ∷ w) (formula.Dist b.0 b.1 b.2)) whole
     (subst (λ n. IsDistance p (lexeme.Sign symbol.LeftRound ∷ x ++ lexeme.Sign symbol.Comma ∷ z ++ lexeme.Sign symbol.RightRound ∷ []) (formula.Dist b.0 n b.2)) (sym place)
     (distance_body far.one.reading (subst (λ n. IsTerm n z b.2) place far.two.reading)))
@@ -213,7 +222,7 @@ some_formula p = let t = some_term p in (t.0, formula.Atom p t.1, alone (one_con
 
 pub some_closed_term : Some (λ q. Closed (IsTerm q) (lexeme.Sign symbol.RightRound))
 some_closed_term = record {
-  some = λ q. let t = some_term q in (t.0 ++ lexeme.Sign symbol.RightRound ∷ [], t.1, record { inner = t.0; whole = refl; reading = t.2 })
+  some = λ q. let t = some_term q in (t.0 ++ lexeme.Sign symbol.RightRound ∷ [], t.1, record { inner = t.0; whole = refl; reading = t.2 });
 }
 
 pub stuck_distance : {p : ℕ} {K : Lexeme → Bool} {before : List Lexeme} → Lacks (lexeme.Sign symbol.LeftRound) before → Stuck (IsDistance p) K before before
@@ -224,6 +233,6 @@ stuck_distance {p} {K} {before} lacks =
     (lexeme.Sign symbol.LeftRound ∷ f.0 ++ lexeme.Sign symbol.Comma ∷ t.0 ++ lexeme.Sign symbol.RightRound ∷ [], formula.Dist f.1 (p + length f.0 + 2) t.1, distance_body f.2 t.2)
     heads
   where
-  heads : (x : List Lexeme) (a : FormulaTree) → IsDistance p x a → (u : Lexeme) × (y : List Lexeme) × (x ≡ u ∷ y) × Lacks u before
-  heads x a (distance_body {x = y} {y = z} d e) =
-      (lexeme.Sign symbol.LeftRound, y ++ lexeme.Sign symbol.Comma ∷ z ++ lexeme.Sign symbol.RightRound ∷ [], refl, lacks)
+    heads : (x : List Lexeme) (a : FormulaTree) → IsDistance p x a → (u : Lexeme) × (y : List Lexeme) × (x ≡ u ∷ y) × Lacks u before
+    heads x a (distance_body {x = y} {y = z} d e) =
+        (lexeme.Sign symbol.LeftRound, y ++ lexeme.Sign symbol.Comma ∷ z ++ lexeme.Sign symbol.RightRound ∷ [], refl, lacks)

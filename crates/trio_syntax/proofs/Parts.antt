@@ -1,5 +1,5 @@
 -- Every And and every Or that is read has two parts or more.
-use Rattle.std.proofs.Common.{◌≡◌, ℕ, suc, ◌+◌, ◌≤◌, Bool, true, ◌&&◌, List, [], ◌∷◌, ◌++◌, length, map, refl, sym, ap, subst, ◌∙◌, arith}
+use Rattle.std.proofs.Common.{◌≡◌, ℕ, ◌≤◌, Bool, true, ◌&&◌, List, [], ◌∷◌, length, map, refl, sym, ap, ◌∙◌, arith}
 use Rattle.std.specs.List.{list_all}
 use Rattle.std.proofs.lemmas.List.Folds.{list_all-map}
 use Rattle.std.proofs.lemmas.Bool.{and_parts, and_from, le-leb}
@@ -8,7 +8,7 @@ use Rattle.trio_syntax.specs.declared.tree.TermTree.{TermTree}
 use Rattle.trio_syntax.specs.declared.tree.FormulaTree.{FormulaTree}
 use Rattle.trio_syntax.specs.declared.tree.FormulaTree.TheVariants as v
 use Rattle.trio_syntax.specs.declared.tree.FormulaTree.TheOpen as node
-use Rattle.trio_syntax.specs.declared.tree.FormulaTree.TheFolds.{fold-FormulaTree, fold-roll-FormulaTree}
+use Rattle.trio_syntax.specs.declared.tree.FormulaTree.TheFolds.{fold-roll-FormulaTree}
 use Rattle.trio_syntax.specs.declared.tree.AxiomTree.{AxiomTree}
 use Rattle.trio_syntax.specs.declared.tree.SpecTree.{SpecTree}
 use Rattle.trio_syntax.specs.Grammar.{and_of, or_of, IsFormula, alone, implies, IsDisj, one_conj, or, IsConj, one_unary, and, IsUnary, plain, negated, IsPrimary, round, distance, atom}

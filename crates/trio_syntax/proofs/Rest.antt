@@ -1,8 +1,8 @@
 -- What is left to read of a text that was begun, and how the parts that are read make it up.
-use Rattle.std.proofs.Common.{◌≡◌, ℕ, ◌+◌, Bool, true, false, List, [], ◌∷◌, ◌++◌, length, refl, sym, ap, subst, ◌∙◌, append_assoc, arith, length-append, Result, Ok, Err}
-use Rattle.std.proofs.lemmas.List.{append_cancel_left, append-nil}
+use Rattle.std.proofs.Common.{◌≡◌, ℕ, ◌+◌, Bool, false, List, [], ◌∷◌, ◌++◌, length, refl, sym, ap, subst, ◌∙◌, append_assoc, arith, length-append}
+use Rattle.std.proofs.lemmas.List.{append_cancel_left}
 use Rattle.trio_text.specs.declared.lexeme.Lexeme.{Lexeme}
-use Rattle.trio_syntax.specs.Reading.{Language, Begins}
+use Rattle.trio_syntax.specs.Reading.{Language}
 use Rattle.trio_syntax.specs.Exact.{Stops, Lacks, Alike, Reads, Stuck}
 use Rattle.trio_syntax.specs.Parts.{nothing, Closed}
 
@@ -68,8 +68,8 @@ left_left {P = P} {value = value} {more = more} {before = before} {middle = midd
             let same = e ∙ append_assoc l.text m.text z in
             let got = l.rest.back x a s (m.text ++ z) p st same (alike_whole m.text z middle after m.whole al) in
             let next = m.rest.back got.0 got.1 s z got.2 (inside.stops s st) (rest_same l.text got.0 x s (m.text ++ z) got.3 same) al in
-            (next.0, next.1, next.2, whole_same l.text m.text x got.0 next.0 got.3 next.3, got.4 ∙ ap value next.4)
-      }
+            (next.0, next.1, next.2, whole_same l.text m.text x got.0 next.0 got.3 next.3, got.4 ∙ ap value next.4);
+      };
     }
 
 pub left_read : {A B : Type 0} {P : Language A} {K J : Lexeme → Bool} {Q : Language B} {value : B → A} {before middle after : List Lexeme} {v : B} →
@@ -83,7 +83,7 @@ left_read {P = P} {value = value} {before = before} {middle = middle} {after = a
           let same = e ∙ append_assoc l.text r.text z in
           let got = l.rest.back x w s (r.text ++ z) p st same (alike_whole r.text z middle after r.whole al) in
           let one = r.only got.0 got.1 s z got.2 (inside.stops s st) (rest_same l.text got.0 x s (r.text ++ z) got.3 same) al in
-          (got.3 ∙ ap (λ (y : List Lexeme). l.text ++ y) one.0, got.4 ∙ ap value one.1)
+          (got.3 ∙ ap (λ (y : List Lexeme). l.text ++ y) one.0, got.4 ∙ ap value one.1);
     }
 
 pub left_stuck : {A B : Type 0} {P : Language A} {K J : Lexeme → Bool} {Q : Language B} {value : B → A} {before middle after : List Lexeme} →
@@ -96,7 +96,7 @@ left_stuck {P = P} {value = value} {before = before} {middle = middle} {after = 
       dead = λ x w s z p st e al.
           let same = e ∙ append_assoc l.text r.text z in
           let got = l.rest.back x w s (r.text ++ z) p st same (alike_whole r.text z middle after r.whole al) in
-          r.dead got.0 got.1 s z got.2 (inside.stops s st) (rest_same l.text got.0 x s (r.text ++ z) got.3 same) al
+          r.dead got.0 got.1 s z got.2 (inside.stops s st) (rest_same l.text got.0 x s (r.text ++ z) got.3 same) al;
     }
 
 -- the same rest, with its value said otherwise
@@ -108,8 +108,8 @@ left_value {P = P} {value = value} other same l =
       whole = l.whole;
       rest = record {
         into = λ y b q. subst (λ v. P (l.text ++ y) v) (same b) (l.rest.into y b q);
-        back = λ x a s z p st e al. let got = l.rest.back x a s z p st e al in (got.0, got.1, got.2, got.3, got.4 ∙ same got.1)
-      }
+        back = λ x a s z p st e al. let got = l.rest.back x a s z p st e al in (got.0, got.1, got.2, got.3, got.4 ∙ same got.1);
+      };
     }
 
 -- nothing is read yet
@@ -117,7 +117,7 @@ pub left_all : {A : Type 0} {P : Language A} {K : Lexeme → Bool} {before : Lis
 left_all = record {
   text = [];
   whole = refl;
-  rest = record { into = λ y b q. q; back = λ x a s z p st e al. (x, a, p, refl, refl) }
+  rest = record { into = λ y b q. q; back = λ x a s z p st e al. (x, a, p, refl, refl) };
 }
 
 -- by the next token, a text of P is one of Q
@@ -133,8 +133,8 @@ left_start {before = before} into back =
         into = into;
         back = λ x a s z p st e al.
             let got = back x a s p st (subst (λ (w : List Lexeme). Alike w before) (sym e) al) in
-            (x, got.0, got.1, refl, got.2)
-      }
+            (x, got.0, got.1, refl, got.2);
+      };
     }
 
 -- behind its first token, a text of P is one of Q
@@ -152,8 +152,8 @@ left_token {t = t} into back whole =
             let got = back x a p in
             let same : got.0 ≡ t = cc (got.2, e) in
             let found = got.3 same in
-            (got.1, found.0, found.1, got.2 ∙ ap (λ u. u ∷ got.1) same, found.2)
-      }
+            (got.1, found.0, found.1, got.2 ∙ ap (λ u. u ∷ got.1) same, found.2);
+      };
     }
 
 -- no token in front begins a text of P
@@ -169,7 +169,7 @@ stuck_front {before = before} some heads =
       dead = λ x a s z p st e al.
           let got = heads x a p in
           lacks_alike got.0 (got.1 ++ s) before got.3
-          (subst (λ (w : List Lexeme). Alike w before) (sym e ∙ ap (λ (w : List Lexeme). w ++ s) got.2) al)
+          (subst (λ (w : List Lexeme). Alike w before) (sym e ∙ ap (λ (w : List Lexeme). w ++ s) got.2) al);
     }
 
 -- no token, and this value
@@ -234,11 +234,14 @@ left_then {P = P} {R = R} {value = value} {before = before} {middle = middle} {a
             let t = got.2 in
             let here = sym (append_assoc t.first t.second s) ∙ ap (λ (w : List Lexeme). w ++ s) (sym t.whole) ∙ rest_same l.text got.0 x s (r.text ++ z) got.3 same in
             let one = r.only t.first got.1.0 (t.second ++ s) z t.one (follows.stops got.1.1 t.second got.1.2 s t.two st) here al in
-            let there : got.1.1 ≡ q = t.place ∙ ap (λ (w : List Lexeme). p + length w) one.0 ∙ sym place in
-            (t.second, got.1.2, subst (λ n. R n t.second got.1.2) there t.two,
-            whole_same l.text r.text x got.0 t.second got.3 (t.whole ∙ ap (λ (w : List Lexeme). w ++ t.second) one.0),
-            got.4 ∙ ap (λ b. value (b, got.1.1, got.1.2)) one.1 ∙ ap (λ n. value (v, n, got.1.2)) there)
-      }
+            let there : got.1.1 ≡ q = t.place ∙ ap (λ (w : List Lexeme). p + length w) one.0 ∙ sym place in (
+              t.second,
+              got.1.2,
+              subst (λ n. R n t.second got.1.2) there t.two,
+              whole_same l.text r.text x got.0 t.second got.3 (t.whole ∙ ap (λ (w : List Lexeme). w ++ t.second) one.0),
+              got.4 ∙ ap (λ b. value (b, got.1.1, got.1.2)) one.1 ∙ ap (λ n. value (v, n, got.1.2)) there,
+            );
+      };
     }
 
 pub left_stuck_then : {A B C : Type 0} {P : Language A} {K J : Lexeme → Bool} {Q : Language B} {R : ℕ → Language C} {value : B × ℕ × C → A} {before middle after : List Lexeme} {p : ℕ} →
@@ -250,16 +253,19 @@ left_stuck_then {B = B} {C = C} {P = P} {R = R} {value = value} {before = before
     record {
       text = l.text ++ r.text;
       whole = whole_same l.text r.text before middle after l.whole r.whole;
-      begins = (r.begins.0 ++ second.0, value v,
-          subst (λ (x : List Lexeme). P x (value v)) (sym (append_assoc l.text r.text (r.begins.0 ++ second.0)) )
-          (l.rest.into (r.text ++ (r.begins.0 ++ second.0)) v
-          (record { first = first; second = second.0; whole = sym (append_assoc r.text r.begins.0 second.0); place = refl; one = r.begins.2; two = second.2 })));
+      begins = (
+        r.begins.0 ++ second.0,
+        value v,
+        subst (λ (x : List Lexeme). P x (value v)) (sym (append_assoc l.text r.text (r.begins.0 ++ second.0)))
+            (l.rest.into (r.text ++ (r.begins.0 ++ second.0)) v
+            (record { first = first; second = second.0; whole = sym (append_assoc r.text r.begins.0 second.0); place = refl; one = r.begins.2; two = second.2 })),
+      );
       dead = λ x a s z px st e al.
           let same = e ∙ append_assoc l.text r.text z in
           let got = l.rest.back x a s (r.text ++ z) px st same (alike_whole r.text z middle after r.whole al) in
           let t = got.2 in
           let here = sym (append_assoc t.first t.second s) ∙ ap (λ (w : List Lexeme). w ++ s) (sym t.whole) ∙ rest_same l.text got.0 x s (r.text ++ z) got.3 same in
-          r.dead t.first got.1.0 (t.second ++ s) z t.one (follows.stops got.1.1 t.second got.1.2 s t.two st) here al
+          r.dead t.first got.1.0 (t.second ++ s) z t.one (follows.stops got.1.1 t.second got.1.2 s t.two st) here al;
     }
 
 -- a part and its closing token
@@ -272,9 +278,9 @@ closed_read {before = before} {middle = middle} {after = after} {v = v} {close =
       reading = record { inner = r.text; whole = refl; reading = r.reading };
       only = λ x w s z c st e al.
           let same : c.inner ++ close ∷ s ≡ r.text ++ close ∷ z =
-              sym (append_assoc c.inner (close ∷ []) s) ∙ ap (λ (y : List Lexeme). y ++ s) (sym c.whole) ∙ e ∙ append_assoc r.text (close ∷ []) z in
+          sym (append_assoc c.inner (close ∷ []) s) ∙ ap (λ (y : List Lexeme). y ++ s) (sym c.whole) ∙ e ∙ append_assoc r.text (close ∷ []) z in
           let one = r.only c.inner w (close ∷ s) (close ∷ z) c.reading stops same (subst (λ (y : List Lexeme). Alike (close ∷ z) y) (sym next) refl) in
-          (c.whole ∙ ap (λ (y : List Lexeme). y ++ close ∷ []) one.0, one.1)
+          (c.whole ∙ ap (λ (y : List Lexeme). y ++ close ∷ []) one.0, one.1);
     }
 
 pub closed_stuck : {A : Type 0} {P : Language A} {K J : Lexeme → Bool} {before after : List Lexeme} {close : Lexeme} →
@@ -286,8 +292,8 @@ closed_stuck {close = close} stops r =
       begins = (r.begins.0 ++ close ∷ [], r.begins.1, record { inner = r.text ++ r.begins.0; whole = sym (append_assoc r.text r.begins.0 (close ∷ [])); reading = r.begins.2 });
       dead = λ x w s z c st e al.
           let same : c.inner ++ close ∷ s ≡ r.text ++ z =
-              sym (append_assoc c.inner (close ∷ []) s) ∙ ap (λ (y : List Lexeme). y ++ s) (sym c.whole) ∙ e in
-          r.dead c.inner w (close ∷ s) z c.reading stops same al
+          sym (append_assoc c.inner (close ∷ []) s) ∙ ap (λ (y : List Lexeme). y ++ s) (sym c.whole) ∙ e in
+          r.dead c.inner w (close ∷ s) z c.reading stops same al;
     }
 
 pub closed_missing : {A : Type 0} {P : Language A} {K J : Lexeme → Bool} {before after : List Lexeme} {v : A} {close : Lexeme} →
@@ -299,8 +305,8 @@ closed_missing {after = after} {v = v} {close = close} stops r lacks =
       begins = (close ∷ [], v, record { inner = r.text; whole = refl; reading = r.reading });
       dead = λ x w s z c st e al.
           let same : c.inner ++ close ∷ s ≡ r.text ++ z =
-              sym (append_assoc c.inner (close ∷ []) s) ∙ ap (λ (y : List Lexeme). y ++ s) (sym c.whole) ∙ e in
+          sym (append_assoc c.inner (close ∷ []) s) ∙ ap (λ (y : List Lexeme). y ++ s) (sym c.whole) ∙ e in
           let one = r.only c.inner w (close ∷ s) z c.reading stops same al in
           let next : close ∷ s ≡ z = append_cancel_left r.text (close ∷ s) z (ap (λ (y : List Lexeme). y ++ close ∷ s) (sym one.0) ∙ same) in
-          lacks_alike close s after lacks (subst (λ (y : List Lexeme). Alike y after) (sym next) al)
+          lacks_alike close s after lacks (subst (λ (y : List Lexeme). Alike y after) (sym next) al);
     }

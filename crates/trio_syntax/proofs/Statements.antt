@@ -1,5 +1,5 @@
 -- What is left of a statement, and of a whole specification, behind each of its tokens.
-use Rattle.std.proofs.Common.{◌≡◌, ℕ, ◌+◌, ◌≤◌, Bool, true, false, List, [], ◌∷◌, ◌++◌, length, refl, sym, ap, subst, ◌∙◌, append_assoc, arith, length-append, Option, None, Some}
+use Rattle.std.proofs.Common.{◌≡◌, ℕ, ◌+◌, Bool, true, false, List, [], ◌∷◌, ◌++◌, length, refl, sym, ap, subst, ◌∙◌, append_assoc, arith, Option, None, Some}
 use Rattle.std.proofs.lemmas.Bool.{both_ways}
 use Rattle.trio_text.specs.declared.lexeme.Lexeme.{Lexeme}
 use Rattle.trio_text.specs.declared.lexeme.Lexeme.TheVariants as lexeme
@@ -13,8 +13,8 @@ use Rattle.trio_syntax.specs.declared.tree.SpecTree.{SpecTree}
 use Rattle.trio_syntax.specs.Reading.{Language}
 use Rattle.trio_syntax.specs.Grammar.{IsFormula, IsItem, item, input, IsAt, everywhere, at as at_number, IsAxiom, axiom_, Many, none, more, IsSpec, spec}
 use Rattle.trio_syntax.specs.Exact.{Stops, Lacks, Alike, Reads, Stuck}
-use Rattle.trio_syntax.specs.Parts.{nothing, begins_at, begins_item, begins_axiom, after_spec, item_word, Closed, IsBool, IsItemBody, item_body, IsAxiomBody, axiom_body}
-use Rattle.trio_syntax.proofs.Rest.{IsIn, is_in_self, Left, left_start, left_token, left_left, left_led, stuck_front, stuck_led, lacks_alike, next_place, Led, Nil, Then, Follows}
+use Rattle.trio_syntax.specs.Parts.{begins_at, begins_item, begins_axiom, after_spec, item_word, Closed, IsBool, IsItemBody, item_body, IsAxiomBody, axiom_body}
+use Rattle.trio_syntax.proofs.Rest.{IsIn, is_in_self, Left, left_start, left_token, left_left, left_led, stuck_front, lacks_alike, next_place, Led, Nil, Then, Follows}
 use Rattle.trio_syntax.proofs.Rest.{Some as Filled}
 use Rattle.trio_syntax.proofs.Repeat.{Fronts, Repeated}
 use Rattle.trio_syntax.proofs.Formulas.{some_formula}
@@ -38,19 +38,26 @@ some_bool = (lexeme.Word reserved.Bool ∷ some_semi.0, tt, record { tail = some
 pub left_bool : {K : Lexeme → Bool} {before : List Lexeme} → Left IsBool K before IsColonBool (λ u. u) before
 left_bool =
     left_start bool_into
-    (λ x a s p st al. (a, record {
-      tail = lexeme.Word reserved.Bool ∷ lexeme.Sign symbol.Semi ∷ [];
-      whole = p;
-      reading = record { tail = lexeme.Sign symbol.Semi ∷ []; whole = refl; reading = record { tail = []; whole = refl; reading = (refl, refl) } }
-    }, refl))
+    (λ x a s p st al. (
+      a,
+      record {
+        tail = lexeme.Word reserved.Bool ∷ lexeme.Sign symbol.Semi ∷ [];
+        whole = p;
+        reading = record { tail = lexeme.Sign symbol.Semi ∷ []; whole = refl; reading = record { tail = []; whole = refl; reading = (refl, refl) } };
+      },
+      refl,
+    ))
 
 -- item
 
 item_back : {kind : Bool} {p : ℕ} {name : List ℕ} {x : List Lexeme} {a : ItemTree} → IsItemBody kind p x a →
     (u : Lexeme) × (y : List Lexeme) × (x ≡ u ∷ y) × (u ≡ lexeme.Name name → (b : Unit {0}) × IsBool y b × (a ≡ record { input = kind; name = name; place = p }))
-item_back {kind} {p} {name} (item_body {name = other}) =
-    (lexeme.Name other, lexeme.Sign symbol.Colon ∷ lexeme.Word reserved.Bool ∷ lexeme.Sign symbol.Semi ∷ [], refl,
-    λ same. let names : other ≡ name = cc in (tt, refl, ap (λ (n : List ℕ). record { input = kind; name = n; place = p }) names))
+item_back {kind} {p} {name} (item_body {name = other}) = (
+  lexeme.Name other,
+  lexeme.Sign symbol.Colon ∷ lexeme.Word reserved.Bool ∷ lexeme.Sign symbol.Semi ∷ [],
+  refl,
+  λ same. let names : other ≡ name = cc in (tt, refl, ap (λ (n : List ℕ). record { input = kind; name = n; place = p }) names),
+)
 
 item_into : {kind : Bool} {p : ℕ} {name : List ℕ} (y : List Lexeme) (b : Unit {0}) → IsBool y b → IsItemBody kind p (lexeme.Name name ∷ y) (record { input = kind; name = name; place = p })
 item_into {kind} {p} {name} y b is = subst (λ (w : List Lexeme). IsItemBody kind p (lexeme.Name name ∷ w) (record { input = kind; name = name; place = p })) (sym is) item_body
@@ -63,32 +70,38 @@ pub stuck_item_body : {kind : Bool} {p : ℕ} {K : Lexeme → Bool} {before : Li
 stuck_item_body {kind} {p} {K} {before} lacks =
     stuck_front (lexeme.Name [] ∷ lexeme.Sign symbol.Colon ∷ lexeme.Word reserved.Bool ∷ lexeme.Sign symbol.Semi ∷ [], record { input = kind; name = []; place = p }, item_body) heads
   where
-  heads : (x : List Lexeme) (a : ItemTree) → IsItemBody kind p x a → (u : Lexeme) × (y : List Lexeme) × (x ≡ u ∷ y) × Lacks u before
-  heads x a (item_body {name = name}) = (lexeme.Name name, lexeme.Sign symbol.Colon ∷ lexeme.Word reserved.Bool ∷ lexeme.Sign symbol.Semi ∷ [], refl, lacks name)
+    heads : (x : List Lexeme) (a : ItemTree) → IsItemBody kind p x a → (u : Lexeme) × (y : List Lexeme) × (x ≡ u ∷ y) × Lacks u before
+    heads x a (item_body {name = name}) = (lexeme.Name name, lexeme.Sign symbol.Colon ∷ lexeme.Word reserved.Bool ∷ lexeme.Sign symbol.Semi ∷ [], refl, lacks name)
 
 keyword_back : (kind : Bool) {p : ℕ} {x : List Lexeme} {a : ItemTree} → IsItem p x a →
     (u : Lexeme) × (y : List Lexeme) × (x ≡ u ∷ y) × (u ≡ item_word kind → (b : ItemTree) × IsItemBody kind (p + 1) y b × (a ≡ b))
-keyword_back false {p} (item {name = name}) =
-    (lexeme.Word reserved.Item, lexeme.Name name ∷ lexeme.Sign symbol.Colon ∷ lexeme.Word reserved.Bool ∷ lexeme.Sign symbol.Semi ∷ [], refl,
-    λ same. (record { input = false; name = name; place = p + 1 }, item_body, refl))
+keyword_back false {p} (item {name = name}) = (
+  lexeme.Word reserved.Item,
+  lexeme.Name name ∷ lexeme.Sign symbol.Colon ∷ lexeme.Word reserved.Bool ∷ lexeme.Sign symbol.Semi ∷ [],
+  refl,
+  λ same. (record { input = false; name = name; place = p + 1 }, item_body, refl),
+)
 keyword_back false {p} (input {name = name}) =
     (lexeme.Word reserved.Input, lexeme.Name name ∷ lexeme.Sign symbol.Colon ∷ lexeme.Word reserved.Bool ∷ lexeme.Sign symbol.Semi ∷ [], refl, λ same. cc)
 keyword_back true {p} (item {name = name}) =
     (lexeme.Word reserved.Item, lexeme.Name name ∷ lexeme.Sign symbol.Colon ∷ lexeme.Word reserved.Bool ∷ lexeme.Sign symbol.Semi ∷ [], refl, λ same. cc)
-keyword_back true {p} (input {name = name}) =
-    (lexeme.Word reserved.Input, lexeme.Name name ∷ lexeme.Sign symbol.Colon ∷ lexeme.Word reserved.Bool ∷ lexeme.Sign symbol.Semi ∷ [], refl,
-    λ same. (record { input = true; name = name; place = p + 1 }, item_body, refl))
+keyword_back true {p} (input {name = name}) = (
+  lexeme.Word reserved.Input,
+  lexeme.Name name ∷ lexeme.Sign symbol.Colon ∷ lexeme.Word reserved.Bool ∷ lexeme.Sign symbol.Semi ∷ [],
+  refl,
+  λ same. (record { input = true; name = name; place = p + 1 }, item_body, refl),
+)
 
 keyword_into : (kind : Bool) (p : ℕ) (y : List Lexeme) (b : ItemTree) → IsItemBody kind (p + 1) y b → IsItem p (item_word kind ∷ y) b
 keyword_into kind p y b d = into kind (p + 1) y b refl d
   where
-  into : (k : Bool) (q : ℕ) (z : List Lexeme) (a : ItemTree) → q ≡ p + 1 → IsItemBody k q z a → IsItem p (item_word k ∷ z) a
-  into false q z a same (item_body {name = name}) =
-      subst (λ n. IsItem p (lexeme.Word reserved.Item ∷ lexeme.Name name ∷ lexeme.Sign symbol.Colon ∷ lexeme.Word reserved.Bool ∷ lexeme.Sign symbol.Semi ∷ []) (record { input = false; name = name; place = n }))
-      (sym same) item
-  into true q z a same (item_body {name = name}) =
-      subst (λ n. IsItem p (lexeme.Word reserved.Input ∷ lexeme.Name name ∷ lexeme.Sign symbol.Colon ∷ lexeme.Word reserved.Bool ∷ lexeme.Sign symbol.Semi ∷ []) (record { input = true; name = name; place = n }))
-      (sym same) input
+    into : (k : Bool) (q : ℕ) (z : List Lexeme) (a : ItemTree) → q ≡ p + 1 → IsItemBody k q z a → IsItem p (item_word k ∷ z) a
+    into false q z a same (item_body {name = name}) =
+        subst (λ n. IsItem p (lexeme.Word reserved.Item ∷ lexeme.Name name ∷ lexeme.Sign symbol.Colon ∷ lexeme.Word reserved.Bool ∷ lexeme.Sign symbol.Semi ∷ []) (record { input = false; name = name; place = n }))
+        (sym same) item
+    into true q z a same (item_body {name = name}) =
+        subst (λ n. IsItem p (lexeme.Word reserved.Input ∷ lexeme.Name name ∷ lexeme.Sign symbol.Colon ∷ lexeme.Word reserved.Bool ∷ lexeme.Sign symbol.Semi ∷ []) (record { input = true; name = name; place = n }))
+        (sym same) input
 
 pub left_item : {p : ℕ} {K : Lexeme → Bool} {before after : List Lexeme} (kind : Bool) (q : ℕ) → before ≡ item_word kind ∷ after → q + length after ≡ p + length before →
     Left (IsItem p) K before (IsItemBody kind q) (λ v. v) after
@@ -124,7 +137,7 @@ reads_number {p} {K} {n} {before} {after} whole =
       only = λ x w s z d st e al.
           let shown : lexeme.Number d.value ∷ s ≡ lexeme.Number n ∷ z = ap (λ (y : List Lexeme). y ++ s) (sym d.whole) ∙ e in
           let same : d.value ≡ n = cc shown in
-          (d.whole ∙ ap (λ v. lexeme.Number v ∷ []) same, d.is ∙ ap (λ v. record { number = v; place = p }) same)
+          (d.whole ∙ ap (λ v. lexeme.Number v ∷ []) same, d.is ∙ ap (λ v. record { number = v; place = p }) same);
     }
 
 pub stuck_number : {p : ℕ} {K : Lexeme → Bool} {before : List Lexeme} → ((n : ℕ) → Lacks (lexeme.Number n) before) → Stuck (IsNumber p) K before before
@@ -150,7 +163,7 @@ left_at {p} {before} {after} q whole at =
     (record {
       text = lexeme.Word reserved.At ∷ [];
       whole = whole;
-      rest = record { into = at_into; back = λ x a s z d st e al. at_back s z st e d }
+      rest = record { into = at_into; back = λ x a s z d st e al. at_back s z st e d };
     })
 
 nowhere : {p : ℕ} {x : List Lexeme} {a : Option Written} (before s : List Lexeme) → Lacks (lexeme.Word reserved.At) before → Alike (x ++ s) before → IsAt p x a → (x ≡ []) × (a ≡ None)
@@ -163,7 +176,7 @@ reads_everywhere {before = before} lacks =
       text = [];
       whole = refl;
       reading = everywhere;
-      only = λ x w s z d st e al. nowhere before s lacks (subst (λ (y : List Lexeme). Alike y before) (sym e) al) d
+      only = λ x w s z d st e al. nowhere before s lacks (subst (λ (y : List Lexeme). Alike y before) (sym e) al) d;
     }
 
 -- axiom
@@ -182,12 +195,12 @@ some_closed_formula q = let f = some_formula q in (f.0 ++ lexeme.Sign symbol.Sem
 
 pub some_colon : Filled IsColonFormula
 some_colon = record {
-  some = λ q. let f = some_closed_formula (q + 1) in (lexeme.Sign symbol.Colon ∷ f.0, f.1, record { tail = f.0; whole = refl; reading = f.2 })
+  some = λ q. let f = some_closed_formula (q + 1) in (lexeme.Sign symbol.Colon ∷ f.0, f.1, record { tail = f.0; whole = refl; reading = f.2 });
 }
 
 pub follows_at : {K : Lexeme → Bool} → Follows begins_at IsColonFormula K
 follows_at = record {
-  stops = λ q y b s led st. let P : List Lexeme → Type 0 = λ w. Stops begins_at (w ++ s) in subst P (sym led.whole) refl
+  stops = λ q y b s led st. let P : List Lexeme → Type 0 = λ w. Stops begins_at (w ++ s) in subst P (sym led.whole) refl;
 }
 
 abbrev pub IsRule : ℕ → Language (Option Written × ℕ × FormulaTree)
@@ -197,18 +210,23 @@ axiom_back : {p : ℕ} {name : List ℕ} {x : List Lexeme} {a : AxiomTree} → I
     (u : Lexeme) × (y : List Lexeme) × (x ≡ u ∷ y) ×
     (u ≡ lexeme.Name name → (b : Option Written × ℕ × FormulaTree) × IsRule (p + 1) y b × (a ≡ record { name = name; place = p; at = b.0; formula = b.2 }))
 axiom_back {p} {name} (axiom_body {name = other} {x = x} {y = y} {k = k} {f = f} d e) =
-    let place : p + length x + 2 ≡ p + 1 + length x + 1 = omega arith in
-    (lexeme.Name other, x ++ lexeme.Sign symbol.Colon ∷ y ++ lexeme.Sign symbol.Semi ∷ [], refl,
-    λ same. let names : other ≡ name = cc in
-    ((k, p + 1 + length x, f),
-    record {
-      first = x;
-      second = lexeme.Sign symbol.Colon ∷ y ++ lexeme.Sign symbol.Semi ∷ [];
-      whole = append_assoc x (lexeme.Sign symbol.Colon ∷ y) (lexeme.Sign symbol.Semi ∷ []);
-      place = refl;
-      one = d;
-      two = record { tail = y ++ lexeme.Sign symbol.Semi ∷ []; whole = refl; reading = record { inner = y; whole = refl; reading = subst (λ n. IsFormula n y f) place e } }
-    }, ap (λ (n : List ℕ). record { name = n; place = p; at = k; formula = f }) names))
+    let place : p + length x + 2 ≡ p + 1 + length x + 1 = omega arith in (
+      lexeme.Name other,
+      x ++ lexeme.Sign symbol.Colon ∷ y ++ lexeme.Sign symbol.Semi ∷ [],
+      refl,
+      λ same. let names : other ≡ name = cc in (
+        (k, p + 1 + length x, f),
+        record {
+          first = x;
+          second = lexeme.Sign symbol.Colon ∷ y ++ lexeme.Sign symbol.Semi ∷ [];
+          whole = append_assoc x (lexeme.Sign symbol.Colon ∷ y) (lexeme.Sign symbol.Semi ∷ []);
+          place = refl;
+          one = d;
+          two = record { tail = y ++ lexeme.Sign symbol.Semi ∷ []; whole = refl; reading = record { inner = y; whole = refl; reading = subst (λ n. IsFormula n y f) place e } };
+        },
+        ap (λ (n : List ℕ). record { name = n; place = p; at = k; formula = f }) names,
+      ),
+    )
 
 axiom_into : {p : ℕ} {name : List ℕ} (y : List Lexeme) (b : Option Written × ℕ × FormulaTree) → IsRule (p + 1) y b →
     IsAxiomBody p (lexeme.Name name ∷ y) (record { name = name; place = p; at = b.0; formula = b.2 })
@@ -217,8 +235,8 @@ axiom_into {p} {name} y b rule =
     let z = rule.two.reading.inner in
     let place : b.1 + 1 ≡ p + length x + 2 = omega (arith, rule.place) in
     let whole : x ++ lexeme.Sign symbol.Colon ∷ z ++ lexeme.Sign symbol.Semi ∷ [] ≡ y =
-        append_assoc x (lexeme.Sign symbol.Colon ∷ z) (lexeme.Sign symbol.Semi ∷ [])
-        ∙ ap (λ (w : List Lexeme). x ++ (lexeme.Sign symbol.Colon ∷ w)) (sym rule.two.reading.whole) ∙ ap (λ (w : List Lexeme). x ++ w) (sym rule.two.whole) ∙ sym rule.whole in
+    append_assoc x (lexeme.Sign symbol.Colon ∷ z) (lexeme.Sign symbol.Semi ∷ [])
+    ∙ ap (λ (w : List Lexeme). x ++ (lexeme.Sign symbol.Colon ∷ w)) (sym rule.two.reading.whole) ∙ ap (λ (w : List Lexeme). x ++ w) (sym rule.two.whole) ∙ sym rule.whole in
     subst (λ (w : List Lexeme). IsAxiomBody p (lexeme.Name name ∷ w) (record { name = name; place = p; at = b.0; formula = b.2 })) whole
     (axiom_body rule.one (subst (λ n. IsFormula n z b.2) place rule.two.reading.reading))
 
@@ -236,26 +254,29 @@ some_axiom_body p =
 pub stuck_axiom_body : {p : ℕ} {K : Lexeme → Bool} {before : List Lexeme} → ((name : List ℕ) → Lacks (lexeme.Name name) before) → Stuck (IsAxiomBody p) K before before
 stuck_axiom_body {p} {K} {before} lacks = stuck_front (some_axiom_body p) heads
   where
-  heads : (x : List Lexeme) (a : AxiomTree) → IsAxiomBody p x a → (u : Lexeme) × (y : List Lexeme) × (x ≡ u ∷ y) × Lacks u before
-  heads x a (axiom_body {name = name} {x = y} {y = z} d e) = (lexeme.Name name, y ++ lexeme.Sign symbol.Colon ∷ z ++ lexeme.Sign symbol.Semi ∷ [], refl, lacks name)
+    heads : (x : List Lexeme) (a : AxiomTree) → IsAxiomBody p x a → (u : Lexeme) × (y : List Lexeme) × (x ≡ u ∷ y) × Lacks u before
+    heads x a (axiom_body {name = name} {x = y} {y = z} d e) = (lexeme.Name name, y ++ lexeme.Sign symbol.Colon ∷ z ++ lexeme.Sign symbol.Semi ∷ [], refl, lacks name)
 
 rule_back : {p : ℕ} {x : List Lexeme} {a : AxiomTree} → IsAxiom p x a →
     (u : Lexeme) × (y : List Lexeme) × (x ≡ u ∷ y) × (u ≡ lexeme.Word reserved.Axiom → (b : AxiomTree) × IsAxiomBody (p + 1) y b × (a ≡ b))
 rule_back {p} (axiom_ {name = name} {x = x} {y = y} {k = k} {f = f} d e) =
     let one : p + 2 ≡ p + 1 + 1 = omega arith in
-    let two : p + length x + 3 ≡ p + 1 + length x + 2 = omega arith in
-    (lexeme.Word reserved.Axiom, lexeme.Name name ∷ x ++ lexeme.Sign symbol.Colon ∷ y ++ lexeme.Sign symbol.Semi ∷ [], refl,
-    λ same. (record { name = name; place = p + 1; at = k; formula = f }, axiom_body (subst (λ n. IsAt n x k) one d) (subst (λ n. IsFormula n y f) two e), refl))
+    let two : p + length x + 3 ≡ p + 1 + length x + 2 = omega arith in (
+      lexeme.Word reserved.Axiom,
+      lexeme.Name name ∷ x ++ lexeme.Sign symbol.Colon ∷ y ++ lexeme.Sign symbol.Semi ∷ [],
+      refl,
+      λ same. (record { name = name; place = p + 1; at = k; formula = f }, axiom_body (subst (λ n. IsAt n x k) one d) (subst (λ n. IsFormula n y f) two e), refl),
+    )
 
 rule_into : {p : ℕ} (y : List Lexeme) (b : AxiomTree) → IsAxiomBody (p + 1) y b → IsAxiom p (lexeme.Word reserved.Axiom ∷ y) b
 rule_into {p} y b d = into (p + 1) y b refl d
   where
-  into : (q : ℕ) (z : List Lexeme) (a : AxiomTree) → q ≡ p + 1 → IsAxiomBody q z a → IsAxiom p (lexeme.Word reserved.Axiom ∷ z) a
-  into q z a same (axiom_body {name = name} {x = x} {y = w} {k = k} {f = f} d e) =
-      let one : q + 1 ≡ p + 2 = omega (arith, same) in
-      let two : q + length x + 2 ≡ p + length x + 3 = omega (arith, same) in
-      subst (λ n. IsAxiom p (lexeme.Word reserved.Axiom ∷ lexeme.Name name ∷ x ++ lexeme.Sign symbol.Colon ∷ w ++ lexeme.Sign symbol.Semi ∷ []) (record { name = name; place = n; at = k; formula = f })) (sym same)
-      (axiom_ (subst (λ n. IsAt n x k) one d) (subst (λ n. IsFormula n w f) two e))
+    into : (q : ℕ) (z : List Lexeme) (a : AxiomTree) → q ≡ p + 1 → IsAxiomBody q z a → IsAxiom p (lexeme.Word reserved.Axiom ∷ z) a
+    into q z a same (axiom_body {name = name} {x = x} {y = w} {k = k} {f = f} d e) =
+        let one : q + 1 ≡ p + 2 = omega (arith, same) in
+        let two : q + length x + 2 ≡ p + length x + 3 = omega (arith, same) in
+        subst (λ n. IsAxiom p (lexeme.Word reserved.Axiom ∷ lexeme.Name name ∷ x ++ lexeme.Sign symbol.Colon ∷ w ++ lexeme.Sign symbol.Semi ∷ []) (record { name = name; place = n; at = k; formula = f })) (sym same)
+        (axiom_ (subst (λ n. IsAt n x k) one d) (subst (λ n. IsFormula n w f) two e))
 
 pub left_axiom : {p : ℕ} {K : Lexeme → Bool} {before after : List Lexeme} (q : ℕ) → before ≡ lexeme.Word reserved.Axiom ∷ after → q + length after ≡ p + length before →
     Left (IsAxiom p) K before (IsAxiomBody q) (λ v. v) after
@@ -339,8 +360,8 @@ spec_back (spec {n = n} {x = x} {y = y} {items = items} {axioms = axioms} d e) =
         parts = (items, length x + 3, axioms);
         whole = refl;
         reading = record { tail = x ++ y; whole = refl; reading = record { first = x; second = y; whole = refl; place = place; one = d; two = e } };
-        is = refl
-      }
+        is = refl;
+      };
     }
 
 spec_into : (y : List Lexeme) (b : SpecTree) → Led (lexeme.Word reserved.Time) IsCount y b → IsSpec y b
@@ -349,9 +370,9 @@ spec_into y b led =
     let body = count.reading.reading in
     let place : count.parts.1 ≡ length body.first + 3 = omega (arith, body.place) in
     let whole : lexeme.Word reserved.Time ∷ lexeme.Number count.instants ∷ lexeme.Sign symbol.Semi ∷ body.first ++ body.second ≡ y =
-        ap (λ (w : List Lexeme). lexeme.Word reserved.Time ∷ lexeme.Number count.instants ∷ lexeme.Sign symbol.Semi ∷ w) (sym body.whole)
-        ∙ ap (λ (w : List Lexeme). lexeme.Word reserved.Time ∷ lexeme.Number count.instants ∷ w) (sym count.reading.whole)
-        ∙ ap (λ (w : List Lexeme). lexeme.Word reserved.Time ∷ w) (sym count.whole) ∙ sym led.whole in
+    ap (λ (w : List Lexeme). lexeme.Word reserved.Time ∷ lexeme.Number count.instants ∷ lexeme.Sign symbol.Semi ∷ w) (sym body.whole)
+    ∙ ap (λ (w : List Lexeme). lexeme.Word reserved.Time ∷ lexeme.Number count.instants ∷ w) (sym count.reading.whole)
+    ∙ ap (λ (w : List Lexeme). lexeme.Word reserved.Time ∷ w) (sym count.whole) ∙ sym led.whole in
     subst (λ (w : List Lexeme). IsSpec w b) whole
     (subst (λ v. IsSpec (lexeme.Word reserved.Time ∷ lexeme.Number count.instants ∷ lexeme.Sign symbol.Semi ∷ body.first ++ body.second) v) (sym count.is)
     (spec body.one (subst (λ n. Many IsAxiom n body.second count.parts.2) place body.two)))
@@ -369,9 +390,11 @@ some_semi_body : IsSemiBody (lexeme.Sign symbol.Semi ∷ []) empty_body
 some_semi_body = record { tail = []; whole = refl; reading = some_body }
 
 pub some_count : (y : List Lexeme) × (v : SpecTree) × IsCount y v
-some_count =
-    (lexeme.Number 0 ∷ lexeme.Sign symbol.Semi ∷ [], record { instants = 0; items = []; axioms = [] },
-    record { instants = 0; tail = lexeme.Sign symbol.Semi ∷ []; parts = empty_body; whole = refl; reading = some_semi_body; is = refl })
+some_count = (
+  lexeme.Number 0 ∷ lexeme.Sign symbol.Semi ∷ [],
+  record { instants = 0; items = []; axioms = [] },
+  record { instants = 0; tail = lexeme.Sign symbol.Semi ∷ []; parts = empty_body; whole = refl; reading = some_semi_body; is = refl },
+)
 
 count_into : {n : ℕ} (y : List Lexeme) (b : List ItemTree × ℕ × List AxiomTree) → IsSemiBody y b → IsCount (lexeme.Number n ∷ y) (record { instants = n; items = b.0; axioms = b.2 })
 count_into {n} y b d = record { instants = n; tail = y; parts = b; whole = refl; reading = d; is = refl }
@@ -379,10 +402,13 @@ count_into {n} y b d = record { instants = n; tail = y; parts = b; whole = refl;
 count_back : {n : ℕ} (x : List Lexeme) (a : SpecTree) → IsCount x a →
     (u : Lexeme) × (y : List Lexeme) × (x ≡ u ∷ y) × (u ≡ lexeme.Number n → (b : List ItemTree × ℕ × List AxiomTree) × IsSemiBody y b × (a ≡ record { instants = n; items = b.0; axioms = b.2 }))
 count_back {n} x a count =
-    let m : ℕ = count.instants in
-    (lexeme.Number m, count.tail, count.whole,
-    λ same. let numbers : m ≡ n = cc same in
-    (count.parts, count.reading, count.is ∙ ap (λ (k : ℕ). record { instants = k; items = count.parts.0; axioms = count.parts.2 }) numbers))
+    let m : ℕ = count.instants in (
+      lexeme.Number m,
+      count.tail,
+      count.whole,
+      λ same. let numbers : m ≡ n = cc same in
+          (count.parts, count.reading, count.is ∙ ap (λ (k : ℕ). record { instants = k; items = count.parts.0; axioms = count.parts.2 }) numbers),
+    )
 
 pub left_count : {K : Lexeme → Bool} {n : ℕ} {before after : List Lexeme} → before ≡ lexeme.Number n ∷ after →
     Left IsCount K before IsSemiBody (λ b. record { instants = n; items = b.0; axioms = b.2 }) after

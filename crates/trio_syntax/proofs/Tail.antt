@@ -1,9 +1,9 @@
 -- Rows of the form P = Q [ sign R ], and loops of the form P = Q { sign Q }, where R is P.
-use Rattle.std.proofs.Common.{◌≡◌, ℕ, ◌+◌, ◌⊎◌, inl, inr, ⊎_elim, Bool, true, false, List, [], ◌∷◌, ◌++◌, length, refl, sym, ap, subst, ◌∙◌, append_assoc, arith, length-append}
+use Rattle.std.proofs.Common.{◌≡◌, ℕ, ◌+◌, ◌⊎◌, ⊎_elim, Bool, true, false, List, [], ◌∷◌, ◌++◌, length, refl, sym, ap, subst, ◌∙◌, append_assoc, arith, length-append}
 use Rattle.std.proofs.lemmas.List.{append_cancel_left}
 use Rattle.std.proofs.lemmas.Bool.{both_ways}
 use Rattle.trio_text.specs.declared.lexeme.Lexeme.{Lexeme}
-use Rattle.trio_syntax.specs.Reading.{Language, Begins}
+use Rattle.trio_syntax.specs.Reading.{Language}
 use Rattle.trio_syntax.specs.Exact.{Stops, Lacks, Alike, Reads, Stuck}
 use Rattle.trio_syntax.proofs.Rest.{IsIn, is_in_self, Left, left_all, left_read, left_stuck, left_left, left_value, lacks_alike}
 
@@ -31,7 +31,6 @@ pub record Tailed {A B C : Type 0} (P : ℕ → Language A) (K : Lexeme → Bool
   pub cases : (p : ℕ) (x : List Lexeme) (a : A) → P p x a → IsAlone (Q p) lone x a ⊎ IsJoined Q sign R both p x a
 
 module _ {A B C : Type 0} {P : ℕ → Language A} {K : Lexeme → Bool} {Q : ℕ → Language B} {J : Lexeme → Bool} {sign : Lexeme} {R : ℕ → Language C} {lone : B → A} {both : B → C → A} (row : Tailed P K Q J sign R lone both) where
-
   -- the tokens of a joined text, regrouped
   joined_same : (x left right s w : List Lexeme) → x ≡ left ++ sign ∷ right → x ++ s ≡ w → left ++ (sign ∷ right ++ s) ≡ w
   joined_same x left right s w whole e =
@@ -46,7 +45,7 @@ module _ {A B C : Type 0} {P : ℕ → Language A} {K : Lexeme → Bool} {Q : �
         dead = λ x a s z px st e al. ⊎_elim
             (λ (h : IsAlone (Q p) lone x a). r.dead x h.0 s z h.1 (row.within.stops s st) e al)
             (λ (h : IsJoined Q sign R both p x a). r.dead h.left h.first (sign ∷ h.right ++ s) z h.one row.apart (joined_same x h.left h.right s _ h.whole e) al)
-            (row.cases p x a px)
+            (row.cases p x a px);
       }
 
   pub tailed_lone : {p : ℕ} {before after : List Lexeme} {b : B} → Reads (Q p) J before after b → Lacks sign after → Reads (P p) K before after (lone b)
@@ -58,11 +57,11 @@ module _ {A B C : Type 0} {P : ℕ → Language A} {K : Lexeme → Bool} {Q : �
         only = λ x a s z px st e al. ⊎_elim
             (λ (h : IsAlone (Q p) lone x a). let same = r.only x h.0 s z h.1 (row.within.stops s st) e al in (same.0, h.2 ∙ ap lone same.1))
             (λ (h : IsJoined Q sign R both p x a).
-                let here = joined_same x h.left h.right s (r.text ++ z) h.whole e in
-                let same = r.only h.left h.first (sign ∷ h.right ++ s) z h.one row.apart here al in
-                let next : sign ∷ h.right ++ s ≡ z = append_cancel_left r.text (sign ∷ h.right ++ s) z (ap (λ (y : List Lexeme). y ++ (sign ∷ h.right ++ s)) (sym same.0) ∙ here) in
-                absurd (lacks_alike sign (h.right ++ s) after lacks (subst (λ (y : List Lexeme). Alike y after) (sym next) al)))
-            (row.cases p x a px)
+            let here = joined_same x h.left h.right s (r.text ++ z) h.whole e in
+            let same = r.only h.left h.first (sign ∷ h.right ++ s) z h.one row.apart here al in
+            let next : sign ∷ h.right ++ s ≡ z = append_cancel_left r.text (sign ∷ h.right ++ s) z (ap (λ (y : List Lexeme). y ++ (sign ∷ h.right ++ s)) (sym same.0) ∙ here) in
+            absurd (lacks_alike sign (h.right ++ s) after lacks (subst (λ (y : List Lexeme). Alike y after) (sym next) al)))
+            (row.cases p x a px);
       }
 
   pub tailed_left : {p : ℕ} {before middle after : List Lexeme} {b : B} (q : ℕ) → Reads (Q p) J before middle b → middle ≡ sign ∷ after → q + length after ≡ p + length before →
@@ -80,16 +79,19 @@ module _ {A B C : Type 0} {P : ℕ → Language A} {K : Lexeme → Bool} {Q : �
               let alike : Alike (sign ∷ z) middle = subst (λ (y : List Lexeme). Alike (sign ∷ z) y) (sym next) refl in
               ⊎_elim
               (λ (h : IsAlone (Q p) lone x a).
-                  let same = r.only x h.0 s (sign ∷ z) h.1 (row.within.stops s st) regrouped alike in
-                  let rest : s ≡ sign ∷ z = append_cancel_left r.text s (sign ∷ z) (ap (λ (y : List Lexeme). y ++ s) (sym same.0) ∙ regrouped) in
-                  absurd (both_ways (K sign) (subst (λ (y : List Lexeme). Stops K y) rest st) row.goes_on))
+              let same = r.only x h.0 s (sign ∷ z) h.1 (row.within.stops s st) regrouped alike in
+              let rest : s ≡ sign ∷ z = append_cancel_left r.text s (sign ∷ z) (ap (λ (y : List Lexeme). y ++ s) (sym same.0) ∙ regrouped) in
+              absurd (both_ways (K sign) (subst (λ (y : List Lexeme). Stops K y) rest st) row.goes_on))
               (λ (h : IsJoined Q sign R both p x a).
-                  let same = r.only h.left h.first (sign ∷ h.right ++ s) (sign ∷ z) h.one row.apart (joined_same x h.left h.right s _ h.whole regrouped) alike in
-                  (h.right, h.second, subst (λ n. R n h.right h.second) (ap (λ (y : List Lexeme). p + length y + 1) same.0 ∙ sym place) h.two,
-                  h.whole ∙ ap (λ (y : List Lexeme). y ++ sign ∷ h.right) same.0 ∙ sym (append_assoc r.text (sign ∷ []) h.right),
-                  h.value ∙ ap (λ f. both f h.second) same.1))
-              (row.cases p x a px)
-        }
+              let same = r.only h.left h.first (sign ∷ h.right ++ s) (sign ∷ z) h.one row.apart (joined_same x h.left h.right s _ h.whole regrouped) alike in (
+                h.right,
+                h.second,
+                subst (λ n. R n h.right h.second) (ap (λ (y : List Lexeme). p + length y + 1) same.0 ∙ sym place) h.two,
+                h.whole ∙ ap (λ (y : List Lexeme). y ++ sign ∷ h.right) same.0 ∙ sym (append_assoc r.text (sign ∷ []) h.right),
+                h.value ∙ ap (λ f. both f h.second) same.1,
+              ))
+              (row.cases p x a px);
+        };
       }
 
 -- some parts of a list are read, and a list is left
@@ -102,7 +104,6 @@ partly_none = record { left = left_all; place = refl }
 
 -- loops: P = Q { sign Q }
 module _ {E B : Type 0} {P : ℕ → Language (List E)} {K : Lexeme → Bool} {Q : ℕ → Language B} {J : Lexeme → Bool} {sign : Lexeme} {part : B → E} (row : Tailed P K Q J sign P (λ b. part b ∷ []) (λ b more. part b ∷ more)) where
-
   pub loop_stuck : {p q : ℕ} {before middle after : List Lexeme} {parts : List E} → Partly P K p before q middle parts → Stuck (Q q) J middle after → Stuck (P p) K before after
   loop_stuck partly r = left_stuck is_in_self partly.left (tailed_stuck row r)
 
@@ -114,5 +115,5 @@ module _ {E B : Type 0} {P : ℕ → Language (List E)} {K : Lexeme → Bool} {Q
   loop_more {parts = parts} {b = b} r partly reads next at =
       record {
         left = left_value (λ more. (parts ++ part b ∷ []) ++ more) (λ more. sym (append_assoc parts (part b ∷ []) more)) (left_left is_in_self partly.left (tailed_left row r reads next at));
-        place = at ∙ partly.place
+        place = at ∙ partly.place;
       }

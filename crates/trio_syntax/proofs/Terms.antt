@@ -1,5 +1,5 @@
 -- What is left of a term behind each of its tokens.
-use Rattle.std.proofs.Common.{◌≡◌, ℕ, ◌+◌, ◌≤◌, Bool, true, false, List, [], ◌∷◌, ◌++◌, length, refl, sym, ap, subst, ◌∙◌, append_assoc, arith, length-append}
+use Rattle.std.proofs.Common.{◌≡◌, ℕ, ◌+◌, ◌≤◌, Bool, true, false, List, [], ◌∷◌, ◌++◌, length, refl, sym, ap, subst, arith}
 use Rattle.trio_text.specs.declared.lexeme.Lexeme.{Lexeme}
 use Rattle.trio_text.specs.declared.lexeme.Lexeme.TheVariants as lexeme
 use Rattle.trio_text.specs.declared.token.Reserved.TheVariants as reserved
@@ -8,7 +8,7 @@ use Rattle.trio_syntax.specs.declared.tree.TermTree.{TermTree}
 use Rattle.trio_syntax.specs.declared.tree.TermTree.TheVariants as term
 use Rattle.trio_syntax.specs.Reading.{Language}
 use Rattle.trio_syntax.specs.Grammar.{IsTerm, unsigned, minus, IsFactor, number, true_, false_, named, square}
-use Rattle.trio_syntax.specs.Exact.{Stops, Lacks, Alike, Reads, Stuck}
+use Rattle.trio_syntax.specs.Exact.{Lacks, Alike, Stuck}
 use Rattle.trio_syntax.specs.Parts.{Closed}
 use Rattle.trio_syntax.proofs.Rest.{Left, left_start, left_token, stuck_front, Nil, lacks_alike, next_place}
 
@@ -89,12 +89,12 @@ pub stuck_factor : {p : ℕ} {K : Lexeme → Bool} {before : List Lexeme} →
 stuck_factor {p} {K} {before} no_square no_true no_false no_number no_name =
     stuck_front (lexeme.Word reserved.True ∷ [], term.Truth true, true_) heads
   where
-  heads : (x : List Lexeme) (a : TermTree) → IsFactor p x a → (u : Lexeme) × (y : List Lexeme) × (x ≡ u ∷ y) × Lacks u before
-  heads x a (number {n = n}) = (lexeme.Number n, [], refl, no_number n)
-  heads x a (named {name = name}) = (lexeme.Name name, [], refl, no_name name)
-  heads x a true_ = (lexeme.Word reserved.True, [], refl, no_true)
-  heads x a false_ = (lexeme.Word reserved.False, [], refl, no_false)
-  heads x a (square {x = y} d) = (lexeme.Sign symbol.LeftSquare, y ++ lexeme.Sign symbol.RightSquare ∷ [], refl, no_square)
+    heads : (x : List Lexeme) (a : TermTree) → IsFactor p x a → (u : Lexeme) × (y : List Lexeme) × (x ≡ u ∷ y) × Lacks u before
+    heads x a (number {n = n}) = (lexeme.Number n, [], refl, no_number n)
+    heads x a (named {name = name}) = (lexeme.Name name, [], refl, no_name name)
+    heads x a true_ = (lexeme.Word reserved.True, [], refl, no_true)
+    heads x a false_ = (lexeme.Word reserved.False, [], refl, no_false)
+    heads x a (square {x = y} d) = (lexeme.Sign symbol.LeftSquare, y ++ lexeme.Sign symbol.RightSquare ∷ [], refl, no_square)
 
 minus_back : {p : ℕ} {x : List Lexeme} {a : TermTree} → IsTerm p x a →
     (u : Lexeme) × (y : List Lexeme) × (x ≡ u ∷ y) × (u ≡ lexeme.Sign symbol.Minus → (b : TermTree) × IsFactor (p + 1) y b × (a ≡ term.Minus (p + 1) b))

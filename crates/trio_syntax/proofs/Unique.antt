@@ -1,5 +1,5 @@
 -- Every text is read as what it stands for, so it stands for nothing else.
-use Rattle.std.proofs.Common.{◌≡◌, ℕ, ◌+◌, ◌<◌, ◌≤◌, Bool, true, false, List, [], ◌∷◌, ◌++◌, length, refl, sym, ap, subst, ◌∙◌, append_assoc, arith, length-append, Option}
+use Rattle.std.proofs.Common.{◌≡◌, ℕ, ◌+◌, ◌<◌, Bool, true, false, List, [], ◌∷◌, ◌++◌, length, refl, sym, ap, subst, ◌∙◌, append_assoc, arith, length-append, Option}
 use Rattle.std.proofs.lemmas.List.{append-nil}
 use Rattle.std.proofs.lemmas.Bool.{both_ways}
 use Rattle.trio_text.specs.declared.lexeme.Lexeme.{Lexeme}
@@ -17,8 +17,8 @@ use Rattle.trio_syntax.specs.Grammar.{IsTerm, unsigned, minus, IsFactor, number,
 use Rattle.trio_syntax.specs.Grammar.{IsFormula, alone, implies, IsDisj, one_conj, or, IsConj, one_unary, and, IsUnary, plain, negated, IsPrimary, round, distance, atom}
 use Rattle.trio_syntax.specs.Grammar.{IsItem, item, input, IsAt, everywhere, at as at_number, IsAxiom, axiom_, Many, none, more, IsSpec, spec}
 use Rattle.trio_syntax.specs.Exact.{Stops, Lacks, Reads}
-use Rattle.trio_syntax.specs.Parts.{nothing, after_formula, after_disj, after_conj, begins_at, begins_item, begins_axiom, after_spec, Closed, IsBool}
-use Rattle.trio_syntax.proofs.Rest.{is_in_self, nothing_in, stops_nothing, left_read, left_left, left_led, left_then, reads_nil, closed_read, follows_nothing}
+use Rattle.trio_syntax.specs.Parts.{nothing, after_formula, after_disj, after_conj, begins_at, after_spec, Closed, IsBool}
+use Rattle.trio_syntax.proofs.Rest.{is_in_self, nothing_in, left_read, left_left, left_led, left_then, reads_nil, closed_read, follows_nothing}
 use Rattle.trio_syntax.proofs.Tail.{tailed_lone, tailed_left, Partly, partly_none}
 use Rattle.trio_syntax.proofs.Repeat.{Fronts, Repeated, many_end, many_more}
 use Rattle.trio_syntax.proofs.Terms.{rank, Heads, factor_heads, term_heads, left_factor, left_square, left_minus, left_unsigned}
@@ -94,7 +94,7 @@ mutual
   reads_primary {v = v} (distance {p = p} {x = x} {y = y} d e) s =
       let rest = y ++ lexeme.Sign symbol.RightRound ∷ s in
       let all : (x ++ lexeme.Sign symbol.Comma ∷ y ++ lexeme.Sign symbol.RightRound ∷ []) ++ s ≡ x ++ lexeme.Sign symbol.Comma ∷ rest =
-          append_assoc (x ++ lexeme.Sign symbol.Comma ∷ y) (lexeme.Sign symbol.RightRound ∷ []) s ∙ append_assoc x (lexeme.Sign symbol.Comma ∷ y) (lexeme.Sign symbol.RightRound ∷ s) in
+      append_assoc (x ++ lexeme.Sign symbol.Comma ∷ y) (lexeme.Sign symbol.RightRound ∷ []) s ∙ append_assoc x (lexeme.Sign symbol.Comma ∷ y) (lexeme.Sign symbol.RightRound ∷ s) in
       let here : p + length x + 3 + length rest ≡ p + 2 + length (x ++ lexeme.Sign symbol.Comma ∷ rest) = omega (arith, length-append x (lexeme.Sign symbol.Comma ∷ rest)) in
       subst (λ w. Reads (IsPrimary p) nothing (lexeme.Word reserved.Dist ∷ lexeme.Sign symbol.LeftRound ∷ w) s v) (sym all)
       (left_read is_in_self
@@ -124,7 +124,7 @@ reads_axiom : (p : ℕ) (x : List Lexeme) (v : AxiomTree) (s : List Lexeme) → 
 reads_axiom p z v s (axiom_ {name = name} {x = x} {y = y} {k = k} {f = f} d e) =
     let rest = y ++ lexeme.Sign symbol.Semi ∷ s in
     let all : (x ++ lexeme.Sign symbol.Colon ∷ y ++ lexeme.Sign symbol.Semi ∷ []) ++ s ≡ x ++ lexeme.Sign symbol.Colon ∷ rest =
-        append_assoc (x ++ lexeme.Sign symbol.Colon ∷ y) (lexeme.Sign symbol.Semi ∷ []) s ∙ append_assoc x (lexeme.Sign symbol.Colon ∷ y) (lexeme.Sign symbol.Semi ∷ s) in
+    append_assoc (x ++ lexeme.Sign symbol.Colon ∷ y) (lexeme.Sign symbol.Semi ∷ []) s ∙ append_assoc x (lexeme.Sign symbol.Colon ∷ y) (lexeme.Sign symbol.Semi ∷ s) in
     let here : p + length x + 2 + length (lexeme.Sign symbol.Colon ∷ rest) ≡ p + 2 + length (x ++ lexeme.Sign symbol.Colon ∷ rest) = omega (arith, length-append x (lexeme.Sign symbol.Colon ∷ rest)) in
     subst (λ w. Reads (IsAxiom p) nothing (lexeme.Word reserved.Axiom ∷ lexeme.Name name ∷ w) s v) (sym all)
     (left_read is_in_self
@@ -138,7 +138,6 @@ reads_axiom p z v s (axiom_ {name = name} {x = x} {y = y} {k = k} {f = f} d e) =
 -- lists of statements
 
 module _ {A : Type 0} {P : ℕ → Language A} {first : Lexeme → Bool} (row : Repeated P first) (one : (p : ℕ) (x : List Lexeme) (v : A) (s : List Lexeme) → P p x v → Reads (P p) nothing (x ++ s) s v) where
-
   reads_more : (p q : ℕ) (before y : List Lexeme) (parts vs : List A) (s : List Lexeme) → Stops first s → Many P q y vs → Partly (Many P) first p before q (y ++ s) parts →
       Reads (Many P p) first before s (parts ++ vs)
   reads_more p q before y parts vs s stops none partly =
@@ -147,7 +146,7 @@ module _ {A : Type 0} {P : ℕ → Language A} {first : Lexeme → Bool} (row : 
       let fronts = row.fronts q x v d in
       let regrouped = subst (λ w. Partly (Many P) first p before q w parts) (append_assoc x z s) partly in
       let front : Fronts first (x ++ (z ++ s)) =
-          record { token = fronts.token; tail = fronts.tail ++ (z ++ s); whole = ap (λ (w : List Lexeme). w ++ (z ++ s)) fronts.whole; is = fronts.is } in
+      record { token = fronts.token; tail = fronts.tail ++ (z ++ s); whole = ap (λ (w : List Lexeme). w ++ (z ++ s)) fronts.whole; is = fronts.is } in
       let next = many_more row (q + length x) regrouped front (one q x v (z ++ s) d) (omega (arith, length-append x (z ++ s))) in
       subst (λ w. Reads (Many P p) first before s w) (append_assoc parts (v ∷ []) ws) (reads_more p (q + length x) before z (parts ++ v ∷ []) ws s stops ds next)
 

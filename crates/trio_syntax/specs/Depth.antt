@@ -1,5 +1,5 @@
 -- How many brackets are open.
-use Rattle.std.specs.Prelude.{ℕ, ◌+◌, ◌-◌, Bool, nat_lt, List, length, take, fold, find, Option}
+use Rattle.std.specs.Prelude.{ℕ, ◌+◌, ◌-◌, nat_lt, List, length, take, fold, find, Option}
 use Rattle.std.specs.List.{range_with_len}
 use Rattle.trio_text.specs.declared.lexeme.Lexeme.{Lexeme}
 use Rattle.trio_text.specs.declared.lexeme.Lexeme.TheVariants as lexeme

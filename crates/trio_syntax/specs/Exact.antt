@@ -1,5 +1,5 @@
 -- What a function that reads one part of a longer text promises: the only text of the part, or where no text of it can go on.
-use Rattle.std.specs.Prelude.{◌≡◌, ℕ, ◌+◌, Bool, false, List, [], ◌∷◌, ◌++◌, length, Result, Ok, Err}
+use Rattle.std.specs.Prelude.{◌≡◌, Bool, false, List, [], ◌∷◌, ◌++◌, Result, Ok, Err}
 use Rattle.trio_text.specs.declared.lexeme.Lexeme.{Lexeme}
 use Rattle.trio_syntax.specs.declared.refusal.Refusal.{Refusal}
 use Rattle.trio_syntax.specs.declared.refusal.Refusal.TheVariants as refusal

@@ -16,14 +16,26 @@ use trio_text::{Lexeme, Reserved, Symbol};
 fn and_of(mut parts: List<FormulaTree>) -> FormulaTree
     ensures { result ≡ and_of parts }
 {
-    if parts.len() == 1 && let Some(part) = parts.pop() { part } else { FormulaTree::And(parts) }
+    if parts.len() == 1
+        && let Some(part) = parts.pop()
+    {
+        part
+    } else {
+        FormulaTree::And(parts)
+    }
 }
 
 /// The disjunction of the parts; one part is itself.
 fn or_of(mut parts: List<FormulaTree>) -> FormulaTree
     ensures { result ≡ or_of parts }
 {
-    if parts.len() == 1 && let Some(part) = parts.pop() { part } else { FormulaTree::Or(parts) }
+    if parts.len() == 1
+        && let Some(part) = parts.pop()
+    {
+        part
+    } else {
+        FormulaTree::Or(parts)
+    }
 }
 
 impl<'a> Parser<'a> {

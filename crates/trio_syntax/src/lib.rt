@@ -14,6 +14,9 @@ mod term;
 mod tree;
 
 pub use fault::TreeFault;
-pub use laws::{declared_names_are_names, faulty_tokens_are_no_tree, tokens_are_one_tree, tokens_have_one_fault, trees_have_parts};
+pub use laws::{
+    declared_names_are_names, faulty_tokens_are_no_tree, tokens_are_one_tree,
+    tokens_have_one_fault, trees_have_parts,
+};
 pub use reader::read_tree;
 pub use tree::{AxiomTree, FormulaTree, ItemTree, SpecTree, TermTree, Written};

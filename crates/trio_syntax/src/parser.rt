@@ -1,3 +1,6 @@
+// Where the reader stands in a list of tokens.
+ghost use Rattle.std.specs.Prelude.{ℕ, ◌+◌, ◌<◌, ◌^◌, length};
+
 use std::alloc::Global;
 use trio_text::Lexeme;
 
@@ -9,5 +12,3 @@ pub struct Parser<'a> {
     pub at: usize,
     ghost fits: { at + length rest.now < 2 ^ 64 },
 }
-
-ghost use Rattle.std.specs.Prelude.{ℕ, ◌+◌, ◌<◌, ◌^◌, length};

@@ -6,7 +6,6 @@ ghost use Rattle.trio_syntax.specs.Parts.{begins_item, item_word};
 
 use crate::parser::Parser;
 use crate::refusal::Refusal;
-use std::alloc::AllocError;
 use trio_base::{List, Name};
 use trio_text::{Lexeme, Reserved, Symbol};
 
@@ -102,7 +101,11 @@ impl<'a> Parser<'a> {
         ensures taken { Taken (λ (u : Unit {0}). Lexeme.Sign symbol) self.old.rest.now self.new.rest.now result }
         ensures at { self.new.at + length self.new.rest.now ≡ self.old.at + length self.old.rest.now }
     {
-        if self.takes_sign(symbol) { Ok(()) } else { Err(Refusal::Syntax) }
+        if self.takes_sign(symbol) {
+            Ok(())
+        } else {
+            Err(Refusal::Syntax)
+        }
     }
 
     /// Takes the next token, which has to be this word.
@@ -110,7 +113,11 @@ impl<'a> Parser<'a> {
         ensures taken { Taken (λ (u : Unit {0}). Lexeme.Word word) self.old.rest.now self.new.rest.now result }
         ensures at { self.new.at + length self.new.rest.now ≡ self.old.at + length self.old.rest.now }
     {
-        if self.takes_word(word) { Ok(()) } else { Err(Refusal::Syntax) }
+        if self.takes_word(word) {
+            Ok(())
+        } else {
+            Err(Refusal::Syntax)
+        }
     }
 
     /// Takes the next token, which has to be a number.

@@ -1,8 +1,7 @@
 use mir.Val.{bool_byte}
-use Rattle.std.proofs.Common.{◌≡◌, Bool, true, false, if◌then◌else◌, refl, ap, ◌∙◌, List, [], ◌∷◌, ◌++◌}
+use Rattle.std.proofs.Common.{◌≡◌, Bool, true, false, if◌then◌else◌, refl, ap, ◌∙◌, [], ◌∷◌}
 use Rattle.trio_types.specs.declared.formula.Term.{Term}
 use Rattle.trio_types.specs.declared.formula.Term.TheVariants as term
-use Rattle.trio_types.specs.declared.formula.SignedTerm.{SignedTerm}
 use Rattle.trio_reader.specs.Erasure.{subtracted}
 use Rattle.trio_reader.proofs.Erased.{term-Number, term-Truth, term-Named, term-Minus}
 use Rattle.trio_reader.proofs.building.+term_of.Goals as goal

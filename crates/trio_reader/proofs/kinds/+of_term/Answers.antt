@@ -1,7 +1,4 @@
-use Rattle.std.proofs.Common.{refl, ap, sym, ◌∙◌, [], ◌∷◌}
-use Rattle.std.proofs.lemmas.Bool.{cond-true, cond-false}
-use Rattle.trio_reader.specs.declared.kind.TermKind.TheVariants as kind
-use Rattle.trio_reader.specs.Scope.{item_names, is_among}
+use Rattle.std.proofs.Common.{refl}
 use Rattle.trio_reader.proofs.Least.{least-append}
 use Rattle.trio_reader.proofs.Terms.{kind-Number, kind-Truth, kind-Named, kind-Minus}
 use Rattle.trio_reader.proofs.kinds.+of_term.Goals as goal

@@ -1,4 +1,4 @@
-use Rattle.std.proofs.Common.{◌≡◌, ℕ, ◌+◌, [], not, length, take, refl, sym, ap, ◌∙◌, add_assoc}
+use Rattle.std.proofs.Common.{◌+◌, [], not, length, take, refl, sym, ap, ◌∙◌, add_assoc}
 use Rattle.std.specs.List.{flat_map, enumerate_from}
 use Rattle.trio_syntax.specs.declared.tree.SpecTree.{SpecTree}
 use Rattle.trio_reader.specs.Places.{least, unless}
@@ -20,8 +20,8 @@ loop-number-2-preserved c =
     least_next (place_if_repeated tree) [] refl (length tree.items + c.loop-number-2.number)
     (length tree.items + c.loop-number-2.number, mention_of_axiom c.axiom-item.result) d.0 d.1 c.loop-number-2.invariant
     (c.unless-in-loop-number-2.ensures
-      ∙ ap (λ b. least (unless (not b) c.axiom-item.result.place)) (c.is_among-in-loop-number-2.ensures
-        ∙ ap (λ n. is_among (take (n + c.loop-number-2.number) (declared_names tree)) c.axiom-item.result.name) c.len-items.ensures))
+    ∙ ap (λ b. least (unless (not b) c.axiom-item.result.place)) (c.is_among-in-loop-number-2.ensures
+    ∙ ap (λ n. is_among (take (n + c.loop-number-2.number) (declared_names tree)) c.axiom-item.result.name) c.len-items.ensures))
     c.earlier-first-in-loop-number-2.ensures
     ∙ ap (λ n. least (flat_map (place_if_repeated tree) (take n (enumerate_from 0 (declarations tree))))) (add_assoc (length tree.items) c.loop-number-2.number 1)
 

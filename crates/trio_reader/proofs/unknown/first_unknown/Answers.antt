@@ -1,4 +1,4 @@
-use Rattle.std.proofs.Common.{◌≡◌, ℕ, ◌+◌, [], length, take, refl, sym, ap, ◌∙◌, add_assoc}
+use Rattle.std.proofs.Common.{ℕ, ◌+◌, [], length, take, refl, ap, ◌∙◌, add_assoc}
 use Rattle.trio_syntax.specs.declared.tree.AxiomTree.{AxiomTree}
 use Rattle.trio_reader.specs.Places.{least}
 use Rattle.trio_reader.specs.Scope.{declared_names, known_names, unknown_in, unknown_places}
@@ -13,7 +13,7 @@ loop-number-preserved c =
     (enumerated_at c.as_slice-axiom-items.ensures c.loop-number.number c.axiom-item.result c.loop-number-test.true c.axiom-item.is)
     c.loop-number.invariant
     (c.in_formula.ensures ∙ ap (λ n. least (unknown_in (take n (declared_names c.args.scope.now.tree.now)) c.axiom-item.result.formula))
-      (add_assoc (length c.as_slice-items.result.now) c.loop-number.number 1 ∙ ap (λ xs. length xs + (c.loop-number.number + 1)) c.as_slice-items.ensures))
+    (add_assoc (length c.as_slice-items.result.now) c.loop-number.number 1 ∙ ap (λ xs. length xs + (c.loop-number.number + 1)) c.as_slice-items.ensures))
     c.earlier-first.ensures
 
 pub returns : goal.returns

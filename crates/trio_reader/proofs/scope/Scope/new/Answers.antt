@@ -1,4 +1,4 @@
-use Rattle.std.proofs.Common.{[], sym, ap, ◌+◌, ◌∙◌, length, zero-add}
+use Rattle.std.proofs.Common.{[], sym, ap, ◌+◌, ◌∙◌, zero-add}
 use Rattle.std.proofs.lemmas.List.{length-map}
 use Rattle.trio_syntax.specs.declared.tree.ItemTree.{ItemTree}
 use Rattle.trio_syntax.specs.declared.tree.AxiomTree.{AxiomTree}

@@ -1,13 +1,13 @@
 -- At each exit: the only formula, or where no formula goes on.
-use Rattle.std.proofs.Common.{◌≡◌, ◌+◌, length, ℕ, Bool, true, false, List, [], ◌∷◌, ◌++◌, sym, ◌∙◌, refl, subst, ap}
+use Rattle.std.proofs.Common.{[], ◌∷◌, ◌++◌, sym, ◌∙◌, refl, subst, ap}
 use Rattle.trio_syntax.specs.declared.tree.FormulaTree.TheVariants as formula
 use Rattle.trio_text.specs.declared.lexeme.Lexeme.TheVariants as lexeme
 use Rattle.trio_text.specs.declared.token.Reserved.TheVariants as reserved
 use Rattle.trio_text.specs.declared.token.Symbol.TheVariants as symbol
-use Rattle.trio_syntax.specs.Grammar.{IsTerm, IsFormula, IsDisj, IsConj, IsUnary, IsPrimary, and_of, or_of}
-use Rattle.trio_syntax.specs.Exact.{Exact, Lacks, Reads, Stuck}
+use Rattle.trio_syntax.specs.Grammar.{IsTerm, IsFormula, IsDisj, IsConj, IsUnary, IsPrimary, or_of}
+use Rattle.trio_syntax.specs.Exact.{Reads}
 use Rattle.trio_syntax.specs.Parts.{after_formula, after_disj, after_conj, nothing, Closed, IsDistance}
-use Rattle.trio_syntax.proofs.Rest.{is_in_self, nothing_in, left_read, left_stuck, left_then, left_stuck_then, follows_nothing, reads_nil, closed_read, closed_stuck, closed_missing}
+use Rattle.trio_syntax.proofs.Rest.{is_in_self, left_read, left_stuck, left_then, left_stuck_then, follows_nothing, closed_read, closed_stuck, closed_missing}
 use Rattle.trio_syntax.proofs.Tail.{Partly, tailed_stuck, tailed_lone, tailed_left, loop_stuck, loop_read, loop_more}
 use Rattle.trio_syntax.proofs.Exits.{passed_on, not_taken, left_exact, exact_here, stuck_here, reads_here, reads_to, same_place, lacks_here}
 use Rattle.trio_syntax.proofs.Formulas.{formula_tailed, disj_tailed, conj_tailed, left_not, left_plain, left_round, left_dist, left_atom, left_far, some_closed_term, stuck_distance}

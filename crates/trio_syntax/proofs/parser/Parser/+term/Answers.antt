@@ -1,11 +1,11 @@
 -- At each exit: the only term, or where no term goes on.
-use Rattle.std.proofs.Common.{◌≡◌, ◌+◌, length, ℕ, Bool, true, false, List, [], ◌∷◌, ◌++◌, sym, ◌∙◌, refl, subst}
+use Rattle.std.proofs.Common.{sym, ◌∙◌, refl, subst}
 use Rattle.trio_syntax.specs.declared.tree.TermTree.TheVariants as term
 use Rattle.trio_text.specs.declared.lexeme.Lexeme.TheVariants as lexeme
 use Rattle.trio_text.specs.declared.token.Reserved.TheVariants as reserved
 use Rattle.trio_text.specs.declared.token.Symbol.TheVariants as symbol
 use Rattle.trio_syntax.specs.Grammar.{IsTerm, IsFactor}
-use Rattle.trio_syntax.specs.Exact.{Exact, Lacks, Reads, Stuck}
+use Rattle.trio_syntax.specs.Exact.{Reads, Stuck}
 use Rattle.trio_syntax.specs.Parts.{nothing, Closed}
 use Rattle.trio_syntax.proofs.Rest.{is_in_self, left_read, left_stuck, reads_nil, closed_read, closed_stuck, closed_missing}
 use Rattle.trio_syntax.proofs.Exits.{passed_on, not_taken, left_exact, exact_here, lacks_here}

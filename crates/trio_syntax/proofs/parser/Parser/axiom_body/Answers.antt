@@ -1,9 +1,8 @@
 -- At each exit: the only axiom, or where it does not go on.
-use Rattle.std.proofs.Common.{◌≡◌, ◌+◌, length, ℕ, Bool, true, false, List, [], ◌∷◌, ◌++◌}
+use Rattle.std.proofs.Common.{◌+◌}
 use Rattle.trio_text.specs.declared.lexeme.Lexeme.TheVariants as lexeme
 use Rattle.trio_text.specs.declared.token.Symbol.TheVariants as symbol
 use Rattle.trio_syntax.specs.Grammar.{IsAt, IsFormula}
-use Rattle.trio_syntax.specs.Exact.{Exact}
 use Rattle.trio_syntax.specs.Parts.{nothing, begins_at, Closed, IsAxiomBody}
 use Rattle.trio_syntax.proofs.Rest.{is_in_self, left_stuck, left_read, left_left, left_then, left_stuck_then, stuck_led}
 use Rattle.trio_syntax.proofs.Exits.{not_taken, passed_on}

@@ -1,9 +1,7 @@
 -- At each exit: `: bool ;` was read, or where it does not go on.
-use Rattle.std.proofs.Common.{◌≡◌, ◌+◌, length, ℕ, Bool, true, false, List, [], ◌∷◌, ◌++◌}
 use Rattle.trio_text.specs.declared.lexeme.Lexeme.TheVariants as lexeme
 use Rattle.trio_text.specs.declared.token.Reserved.TheVariants as reserved
 use Rattle.trio_text.specs.declared.token.Symbol.TheVariants as symbol
-use Rattle.trio_syntax.specs.Exact.{Exact}
 use Rattle.trio_syntax.specs.Parts.{nothing, IsBool}
 use Rattle.trio_syntax.proofs.Rest.{is_in_self, left_stuck, left_left, left_led, stuck_led, Led, Nil}
 use Rattle.trio_syntax.proofs.Exits.{not_taken, left_exact, taken_exact}

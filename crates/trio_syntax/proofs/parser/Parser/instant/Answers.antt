@@ -1,9 +1,8 @@
 -- At each exit: the only instant or none, or where it does not go on.
-use Rattle.std.proofs.Common.{◌≡◌, ◌+◌, length, ℕ, Bool, true, false, List, [], ◌∷◌, ◌++◌, refl}
+use Rattle.std.proofs.Common.{refl}
 use Rattle.trio_text.specs.declared.lexeme.Lexeme.TheVariants as lexeme
 use Rattle.trio_syntax.specs.Grammar.{IsAt}
-use Rattle.trio_syntax.specs.Exact.{Exact}
-use Rattle.trio_syntax.specs.Parts.{nothing, begins_at}
+use Rattle.trio_syntax.specs.Parts.{begins_at}
 use Rattle.trio_syntax.proofs.Rest.{nothing_in, left_stuck, left_read}
 use Rattle.trio_syntax.proofs.Exits.{not_taken, reads_to}
 use Rattle.trio_syntax.proofs.Statements.{left_at, reads_everywhere, reads_number, stuck_number}

@@ -1,7 +1,5 @@
 -- At each exit: the only declaration, or where it does not go on.
-use Rattle.std.proofs.Common.{◌≡◌, ◌+◌, length, ℕ, Bool, true, false, List, [], ◌∷◌, ◌++◌}
 use Rattle.trio_text.specs.declared.lexeme.Lexeme.TheVariants as lexeme
-use Rattle.trio_syntax.specs.Exact.{Exact}
 use Rattle.trio_syntax.specs.Parts.{nothing, IsBool, IsItemBody}
 use Rattle.trio_syntax.proofs.Rest.{is_in_self, left_stuck, left_read}
 use Rattle.trio_syntax.proofs.Exits.{not_taken, passed_on}

@@ -1,7 +1,6 @@
 -- At each exit: the only list of declarations, or where it does not go on.
-use Rattle.std.proofs.Common.{◌≡◌, ◌+◌, length, ℕ, Bool, true, false, List, [], ◌∷◌, ◌++◌, refl, sym, ap, subst, ◌∙◌}
+use Rattle.std.proofs.Common.{refl, sym, subst, ◌∙◌}
 use Rattle.trio_syntax.specs.Grammar.{IsItem, Many}
-use Rattle.trio_syntax.specs.Exact.{Exact}
 use Rattle.trio_syntax.specs.Parts.{nothing, begins_item, IsItemBody}
 use Rattle.trio_syntax.proofs.Rest.{is_in_self, left_read, left_stuck}
 use Rattle.trio_syntax.proofs.Tail.{Partly}

@@ -1,5 +1,5 @@
 -- What the loop keeps.
-use Rattle.std.proofs.Common.{◌+◌, length}
+use Rattle.std.proofs.Common.{length}
 use Rattle.trio_syntax.specs.Grammar.{IsItem, Many}
 use Rattle.trio_syntax.specs.Parts.{begins_item}
 use Rattle.trio_syntax.proofs.Tail.{Partly}

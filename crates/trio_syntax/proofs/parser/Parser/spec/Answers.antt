@@ -1,10 +1,9 @@
 -- At each exit: the only specification, or where it does not go on.
-use Rattle.std.proofs.Common.{◌≡◌, ◌+◌, length, ℕ, Bool, true, false, List, [], ◌∷◌, ◌++◌, refl, sym, ap, subst, ◌∙◌, arith}
+use Rattle.std.proofs.Common.{◌≡◌, length, [], ap, arith}
 use Rattle.trio_text.specs.declared.lexeme.Lexeme.TheVariants as lexeme
 use Rattle.trio_text.specs.declared.token.Reserved.TheVariants as reserved
 use Rattle.trio_text.specs.declared.token.Symbol.TheVariants as symbol
 use Rattle.trio_syntax.specs.Grammar.{IsItem, IsAxiom, Many, IsSpec}
-use Rattle.trio_syntax.specs.Exact.{Exact}
 use Rattle.trio_syntax.specs.Parts.{begins_item, begins_axiom, after_spec}
 use Rattle.trio_syntax.proofs.Rest.{is_in_self, left_read, left_stuck, left_left, left_led, stuck_led, left_then, left_stuck_then}
 use Rattle.trio_syntax.proofs.Exits.{passed_on, not_taken}
