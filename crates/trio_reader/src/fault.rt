@@ -1,3 +1,5 @@
+//! Why a text is no specification.
+
 use thiserror::Error;
 
 /// Why a text is no specification.

@@ -1,3 +1,5 @@
+//! Kinds of terms.
+
 /// What kind of value a term has.
 #[derive(Clone, Copy, Debug, PartialEq, Eq)]
 pub enum TermKind {

@@ -1,3 +1,4 @@
+-- The answers to the goals of `formula_of`, `boxed_of` and `formulas_of`.
 use Rattle.std.proofs.Common.{refl, ap}
 use Rattle.trio_types.specs.declared.formula.Formula.TheVariants as formula
 use Rattle.trio_reader.proofs.Erased.{formula-Atom, formula-Not, formula-And, formula-Or, formula-Implies, formula-Dist}

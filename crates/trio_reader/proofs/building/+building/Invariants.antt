@@ -1,3 +1,4 @@
+-- What the loops of `formula_of`, `boxed_of` and `formulas_of` keep.
 use Rattle.std.proofs.Common.{◌≡◌, map, take}
 use Rattle.trio_reader.specs.Scope.{item_names}
 use Rattle.trio_reader.specs.Erasure.{formula_of}

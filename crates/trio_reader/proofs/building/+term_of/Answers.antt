@@ -1,3 +1,4 @@
+-- The answers to the goals of `term_of`.
 use mir.Val.{bool_byte}
 use Rattle.std.proofs.Common.{◌≡◌, Bool, true, false, if◌then◌else◌, refl, ap, ◌∙◌, [], ◌∷◌}
 use Rattle.trio_types.specs.declared.formula.Term.{Term}

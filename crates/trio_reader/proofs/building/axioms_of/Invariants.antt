@@ -1,3 +1,4 @@
+-- What the loops of `axioms_of` keep.
 use Rattle.std.proofs.Common.{◌≡◌, map, take}
 use Rattle.trio_reader.specs.Scope.{item_names}
 use Rattle.trio_reader.specs.Erasure.{axiom_of}

@@ -1,3 +1,4 @@
+-- The answers to the goals of `item_number`.
 use Rattle.std.proofs.Common.{map, sym, ◌∙◌, arith}
 use Rattle.std.proofs.lemmas.List.{length-map}
 use Rattle.trio_syntax.specs.declared.tree.ItemTree.{ItemTree}

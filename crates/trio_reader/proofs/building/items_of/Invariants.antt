@@ -1,3 +1,4 @@
+-- What the loops of `items_of` keep.
 use Rattle.std.proofs.Common.{◌≡◌, map, take}
 use Rattle.trio_reader.specs.Erasure.{item_of}
 use Rattle.trio_reader.proofs.building.items_of.Given as goal

@@ -1,3 +1,4 @@
+-- The answers to the goals of `spec_of`.
 use Rattle.std.proofs.Common.{map, ap, ◌∙◌, arith}
 use Rattle.trio_reader.specs.Scope.{item_names}
 use Rattle.trio_reader.specs.Erasure.{item_of, axiom_of}

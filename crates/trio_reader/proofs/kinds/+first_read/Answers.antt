@@ -1,3 +1,4 @@
+-- The answers to the goals of `first_read`.
 use Rattle.std.proofs.Common.{refl}
 use Rattle.trio_reader.specs.Scope.{item_names}
 use Rattle.trio_reader.proofs.Terms.{names-Number, names-Truth, names-Named, names-Minus}

@@ -1,3 +1,4 @@
+-- The answers to the goals of `in_formula` and `in_parts`.
 use Rattle.std.proofs.Common.{[], refl}
 use Rattle.trio_reader.specs.Scope.{item_names}
 use Rattle.trio_reader.specs.Kinds.{kind_places_in}

@@ -1,3 +1,4 @@
+-- The answers to the goals of `of_term`.
 use Rattle.std.proofs.Common.{refl}
 use Rattle.trio_reader.proofs.Least.{least-append}
 use Rattle.trio_reader.proofs.Terms.{kind-Number, kind-Truth, kind-Named, kind-Minus}

@@ -1,3 +1,4 @@
+-- The answers to the goals of `first_wrong_kind`.
 use Rattle.std.proofs.Common.{[]}
 use Rattle.trio_syntax.specs.declared.tree.AxiomTree.{AxiomTree}
 use Rattle.trio_reader.specs.Scope.{item_names}

@@ -1,3 +1,4 @@
+-- The answers to the goals of `in_distance`.
 use Rattle.trio_reader.proofs.Least.{least-append}
 use Rattle.trio_reader.proofs.kinds.in_distance.Goals as goal
 

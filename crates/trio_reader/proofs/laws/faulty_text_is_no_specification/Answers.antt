@@ -1,3 +1,4 @@
+-- The answers to the goals of `faulty_text_is_no_specification`.
 use Rattle.trio_reader.proofs.Texts.{no_specification}
 use Rattle.trio_reader.proofs.laws.faulty_text_is_no_specification.Goals as goal
 

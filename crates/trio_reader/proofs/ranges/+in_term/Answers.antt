@@ -1,3 +1,4 @@
+-- The answers to the goals of `in_term`.
 use Rattle.std.proofs.Common.{refl}
 use Rattle.trio_reader.proofs.Terms.{numbers-Number, numbers-Truth, numbers-Named, numbers-Minus}
 use Rattle.trio_reader.proofs.Placed.{large_one}

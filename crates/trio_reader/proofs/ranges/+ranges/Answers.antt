@@ -1,3 +1,4 @@
+-- The answers to the goals of `in_formula` and `in_parts`.
 use Rattle.std.proofs.Common.{[], refl}
 use Rattle.trio_reader.specs.Places.{numbers_in}
 use Rattle.trio_reader.specs.Ranges.{large_among}

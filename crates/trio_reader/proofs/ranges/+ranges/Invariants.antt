@@ -1,3 +1,4 @@
+-- What the loops of `in_formula` and `in_parts` keep.
 use Rattle.std.proofs.Common.{◌≡◌, take}
 use Rattle.std.specs.List.{flat_map}
 use Rattle.trio_reader.specs.Places.{least, numbers_in}

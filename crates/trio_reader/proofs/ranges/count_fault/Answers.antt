@@ -1,3 +1,4 @@
+-- The answers to the goals of `count_fault`.
 use Rattle.std.proofs.Common.{arith}
 use Rattle.std.proofs.lemmas.Bool.Decides.{nat_tests}
 use Rattle.trio_reader.specs.Ranges.{count_fault}

@@ -1,3 +1,4 @@
+-- The answers to the goals of `first_out_of_range`.
 use Rattle.std.proofs.Common.{◌&&◌, nat_lt, nat_le}
 use Rattle.trio_reader.specs.Places.{unless}
 use Rattle.trio_reader.specs.Ranges.{axiom_ranges, range_places}

@@ -1,3 +1,4 @@
+-- What the loops of `first_out_of_range` keep.
 use Rattle.std.proofs.Common.{◌≡◌, ◌&&◌, ◌++◌, nat_lt, nat_le, take}
 use Rattle.std.specs.List.{flat_map}
 use Rattle.trio_reader.specs.Places.{least, unless}

@@ -1,3 +1,4 @@
+-- The answers to the goals of `read_placed`.
 use Rattle.std.proofs.Common.{sym, subst, ◌∙◌}
 use Rattle.trio_reader.specs.Reading.{IsTreeText}
 use Rattle.trio_reader.proofs.Texts.{tree_sound}

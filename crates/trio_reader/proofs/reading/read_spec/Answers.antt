@@ -1,3 +1,4 @@
+-- The answers to the goals of `read_spec`.
 use Rattle.std.proofs.Common.{◌≡◌, Result, Err, refl}
 use Rattle.trio_types.specs.declared.spec.Spec.{Spec}
 use Rattle.trio_reader.specs.declared.fault.SpecFault.{SpecFault}

@@ -1,3 +1,4 @@
+-- The answers to the goals of `first_repeated`.
 use Rattle.std.proofs.Common.{◌+◌, [], not, length, take, refl, sym, ap, ◌∙◌, add_assoc}
 use Rattle.std.specs.List.{flat_map, enumerate_from}
 use Rattle.trio_syntax.specs.declared.tree.SpecTree.{SpecTree}

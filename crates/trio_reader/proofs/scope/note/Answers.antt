@@ -1,3 +1,4 @@
+-- The answers to the goals of `note`.
 use Rattle.std.proofs.Common.{Some, sym, ◌∙◌}
 use Rattle.std.proofs.lemmas.Map.Text.{hash_map_updates_str}
 use Rattle.trio_reader.proofs.Noted.{noted_update}

@@ -1,3 +1,4 @@
+-- The answers to the goals of `in_term`.
 use Rattle.std.proofs.Common.{refl, take}
 use Rattle.trio_reader.specs.Scope.{declared_names}
 use Rattle.trio_reader.proofs.Terms.{names-Number, names-Truth, names-Named, names-Minus}

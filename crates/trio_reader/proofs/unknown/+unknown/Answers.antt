@@ -1,3 +1,4 @@
+-- The answers to the goals of `in_formula` and `in_parts`.
 use Rattle.std.proofs.Common.{[], refl, take}
 use Rattle.trio_reader.specs.Scope.{declared_names, unknown_in}
 use Rattle.trio_reader.proofs.Least.{least_next}

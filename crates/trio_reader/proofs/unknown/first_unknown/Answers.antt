@@ -1,3 +1,4 @@
+-- The answers to the goals of `first_unknown`.
 use Rattle.std.proofs.Common.{ℕ, ◌+◌, [], length, take, refl, ap, ◌∙◌, add_assoc}
 use Rattle.trio_syntax.specs.declared.tree.AxiomTree.{AxiomTree}
 use Rattle.trio_reader.specs.Places.{least}

@@ -1,3 +1,4 @@
+-- What the loops of `first_unknown` keep.
 use Rattle.std.proofs.Common.{◌≡◌, take}
 use Rattle.std.specs.List.{flat_map, enumerate_from}
 use Rattle.trio_reader.specs.Places.{least}

@@ -1,3 +1,4 @@
+-- The answers to the goals of `is_among`.
 use Rattle.std.proofs.Common.{sym, ap, ◌∙◌}
 use Rattle.trio_reader.specs.Scope.{declared_names}
 use Rattle.trio_reader.proofs.Numbered.{is_below, among_first}

@@ -1,3 +1,4 @@
+-- The answers to the goals of `new`.
 use Rattle.std.proofs.Common.{[], sym, ap, ◌+◌, ◌∙◌, zero-add}
 use Rattle.std.proofs.lemmas.List.{length-map}
 use Rattle.trio_syntax.specs.declared.tree.ItemTree.{ItemTree}
