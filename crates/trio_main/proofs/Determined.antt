@@ -1,5 +1,5 @@
 -- For told files one answer is due.
-use Rattle.std.proofs.Common.{◌≡◌, ℕ, ◌<◌, ◌≤◌, ◌⊎◌, inl, inr, Bool, true, List, [], length, Option, None, Some, map, refl, sym, ◌∙◌, ap, arith}
+use Rattle.std.proofs.Common.{◌≡◌, ℕ, ◌<◌, ◌≤◌, ◌⊎◌, inl, inr, Bool, true, List, [], length, Option, None, Some, refl, sym, ◌∙◌, ap, arith}
 use Rattle.std.specs.Prelude.{find, not, IsSomeAnd}
 use Rattle.std.specs.List.{flat_map, enumerate_from}
 use Rattle.std.specs.Option.{option_map}
@@ -21,11 +21,11 @@ use Rattle.trio_main.specs.declared.fault.Fault.{Fault}
 use Rattle.trio_main.specs.declared.fault.Fault.TheVariants as fault
 use Rattle.trio_main.specs.declared.command.Command.{Command}
 use Rattle.trio_main.specs.declared.command.Command.TheVariants as command
-use Rattle.trio_main.specs.Messages.{message, status_of, true_line, false_line, usage_line, name_of}
+use Rattle.trio_main.specs.Messages.{message, status_of, true_line, false_line, usage_line}
 use Rattle.trio_main.specs.Outside.{Shelves, Sinks, WritesAll}
 use Rattle.trio_main.specs.Answers.{Answers, Finishes}
 use Rattle.trio_main.specs.Readable.{IsComplete}
-use Rattle.trio_main.specs.Due.{limit_of, IsSpecFile, IsHistoryFile, HasNoSpec, HasNoHistory, IsTooLong, SpecFileFault, HistoryFileFault, LaterFault, FirstFault, Verdict, IsTrueIn, IsFalseIn, IsRefused, CheckDue, Due}
+use Rattle.trio_main.specs.Due.{limit_of, IsSpecFile, IsHistoryFile, SpecFileFault, HistoryFileFault, FirstFault, Verdict, CheckDue, Due}
 
 same_world : (a b : Spec) → SameSpec a b → world_of a ≡ world_of b
 same_world a b same = rw (same.instants, same.domains, same.items) refl

@@ -1,5 +1,5 @@
 -- From the answer of a job to what the top call ends with.
-use Rattle.std.proofs.Common.{◌≡◌, ℕ, ◌⊎◌, inl, inr, Bool, true, List, Option, None, Some, Result, Ok, Err, IfOk, IfErr, refl, sym}
+use Rattle.std.proofs.Common.{◌≡◌, ℕ, inl, inr, Bool, List, Option, Some, Result, Ok, Err, IfOk, IfErr, refl}
 use Rattle.trio_io.specs.Outside.{FileMap, ShelfCounts, Rose}
 use Rattle.trio_reader.specs.declared.fault.SpecFault.TheVariants as spec_fault
 use Rattle.history_check.specs.declared.table.HistFault.TheVariants as hist_fault
@@ -13,7 +13,7 @@ use Rattle.trio_main.specs.declared.command.Command.TheVariants as command
 use Rattle.trio_main.specs.Messages.{message, status_of, IsSayable}
 use Rattle.trio_main.specs.Computing.{Computes, FaultCause}
 use Rattle.trio_main.specs.Outside.{Shelves, Sinks, sinks, KeepsFiles, WritesAll, WritesPart}
-use Rattle.trio_main.specs.Answers.{Answers, FaultAnswers, JobEnds, Said, Finishes}
+use Rattle.trio_main.specs.Answers.{Answers, JobEnds, Said, Finishes}
 
 -- a verdict that was computed is an answer
 pub computed_answers : (w : Shelves) (s h : List ℕ) (line : List ℕ) (st : Status) → Computes w.tells w.files s h st line → KeepsFiles w →

@@ -1,14 +1,11 @@
 -- What each status tells, from the one answer of the top call.
-use Rattle.std.proofs.Common.{◌≡◌, ℕ, ◌⊎◌, inl, inr, Bool, true, List, Option, None, Some, refl, sym, ◌∙◌}
-use Rattle.trio_io.specs.Outside.{Rose}
+use Rattle.std.proofs.Common.{◌≡◌, ℕ, ◌⊎◌, inl, inr, List, Option, None, Some, refl, sym, ◌∙◌}
 use Rattle.trio_main.specs.declared.status.Status.{Status}
 use Rattle.trio_main.specs.declared.status.Status.TheVariants as status
-use Rattle.trio_main.specs.declared.fault.Fault.TheVariants as fault
 use Rattle.trio_main.specs.declared.command.Command.{Command}
 use Rattle.trio_main.specs.declared.command.Command.TheVariants as command
-use Rattle.trio_main.specs.Messages.{true_line, usage_line}
-use Rattle.trio_main.specs.Outside.{Shelves, Sinks, KeepsFiles, WritesAll, WritesPart, HasReadCause}
-use Rattle.trio_main.specs.Answers.{Answers, Said, Finishes, IsCommand}
+use Rattle.trio_main.specs.Outside.{Shelves, Sinks, WritesAll, HasReadCause}
+use Rattle.trio_main.specs.Answers.{Answers, Said, Finishes}
 use Rattle.trio_main.specs.Readable.{TellsTrue, TellsFalse, TellsRefused, TellsUnread, TellsUnwritten, TellsUsage}
 
 -- an answer that is no failed write was written

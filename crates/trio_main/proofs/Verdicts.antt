@@ -1,19 +1,17 @@
 -- From what was loaded and checked to the answer due.
-use Rattle.std.proofs.Common.{◌≡◌, ℕ, ◌+◌, ◌≤◌, ◌⊎◌, inl, inr, Bool, true, List, Option, None, Some, Result, Ok, Err, sym, ◌∙◌, ap, arith, refl}
-use Rattle.trio_io.specs.Outside.{FileMap, ShelfCounts, Rose, IsLater, HasFetchCause}
+use Rattle.std.proofs.Common.{◌≡◌, ℕ, inl, inr, Bool, List, Option, None, Some, sym, ◌∙◌, arith, refl}
+use Rattle.trio_io.specs.Outside.{FileMap, ShelfCounts, IsLater}
 use Rattle.trio_types.specs.declared.spec.Spec.{Spec}
 use Rattle.trio_types.specs.Verdict.{first_false}
 use Rattle.trio_reader.specs.declared.fault.SpecFault.TheVariants as spec_fault
 use Rattle.history_check.specs.declared.checker.Verdict.{Verdict}
-use Rattle.history_check.specs.declared.checker.Verdict.TheVariants as verdict
 use Rattle.history_check.specs.declared.table.HistFault.TheVariants as hist_fault
 use Rattle.history_check.specs.Answers.{verdict_of}
 use Rattle.trio_main.specs.declared.fault.Text.TheVariants as text
 use Rattle.trio_main.specs.declared.fault.Fault.{Fault}
 use Rattle.trio_main.specs.declared.fault.Fault.TheVariants as fault
 use Rattle.trio_main.specs.declared.status.Status.{Status}
-use Rattle.trio_main.specs.Messages.{true_line, false_line}
-use Rattle.trio_main.specs.Due.{IsSpecFile, IsHistoryFile, FirstFault}
+use Rattle.trio_main.specs.Due.{IsSpecFile, IsHistoryFile}
 use Rattle.trio_main.specs.Loading.{SpecLoadFault, HistoryLoadFault}
 use Rattle.trio_main.specs.Computing.{Computes, FaultCause, verdict_status, verdict_text}
 

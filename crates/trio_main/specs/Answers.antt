@@ -1,5 +1,5 @@
 -- What the top call answers: an answer with its cause was written to its end, or the writing of it failed.
-use Rattle.std.specs.Prelude.{◌≡◌, ℕ, ◌⊎◌, true, List, Option, None, Some, Result, Ok, Err}
+use Rattle.std.specs.Prelude.{◌≡◌, ℕ, ◌⊎◌, List, Option, None, Some, Result, Ok, Err}
 use Rattle.trio_io.specs.Outside.{Rose}
 use Rattle.trio_main.specs.declared.status.Status.{Status}
 use Rattle.trio_main.specs.declared.status.Status.TheVariants as status
@@ -7,7 +7,7 @@ use Rattle.trio_main.specs.declared.fault.Fault.{Fault}
 use Rattle.trio_main.specs.declared.fault.Fault.TheVariants as fault
 use Rattle.trio_main.specs.declared.command.Command.{Command}
 use Rattle.trio_main.specs.Messages.{message, status_of, IsSayable}
-use Rattle.trio_main.specs.Due.{Due, CheckDue, FirstFault}
+use Rattle.trio_main.specs.Due.{Due}
 use Rattle.trio_main.specs.Outside.{Shelves, Sinks, KeepsFiles, WritesAll, WritesPart, HasReadCause}
 
 -- this is the answer due

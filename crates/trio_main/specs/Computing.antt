@@ -1,5 +1,5 @@
 -- What `check` computes from its files before it writes, and why it cannot.
-use Rattle.std.specs.Prelude.{◌≡◌, ℕ, ◌⊎◌, Bool, List, Option, None, Some}
+use Rattle.std.specs.Prelude.{◌≡◌, ℕ, ◌⊎◌, Bool, List}
 use Rattle.trio_io.specs.Outside.{FileMap, ShelfCounts, Rose}
 use Rattle.trio_types.specs.declared.spec.Spec.{Spec}
 use Rattle.trio_reader.specs.declared.fault.SpecFault.TheVariants as spec_fault

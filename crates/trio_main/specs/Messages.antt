@@ -6,7 +6,6 @@ use Rattle.trio_reader.specs.declared.fault.SpecFault.TheVariants as spec_fault
 use Rattle.history_check.specs.declared.table.HistFault.TheVariants as hist_fault
 use Rattle.trio_main.specs.declared.status.Status.{Status}
 use Rattle.trio_main.specs.declared.status.Status.TheVariants as status
-use Rattle.trio_main.specs.declared.fault.Text.{Text}
 use Rattle.trio_main.specs.declared.fault.Text.TheVariants as text
 use Rattle.trio_main.specs.declared.fault.Fault.{Fault}
 use Rattle.trio_main.specs.declared.fault.Fault.TheVariants as fault

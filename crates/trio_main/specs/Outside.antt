@@ -1,5 +1,5 @@
 -- What a call did to its shelf and its sink.
-use Rattle.std.specs.Prelude.{◌≡◌, ℕ, ◌+◌, ◌≤◌, ◌⊎◌, Bool, true, List}
+use Rattle.std.specs.Prelude.{◌≡◌, ℕ, ◌⊎◌, Bool, List}
 use Rattle.trio_io.specs.Outside.{FileMap, ShelfCounts, Rose, Writes, WritesFront}
 
 -- a shelf before and after: whether it tells its files, the files, and the counts

@@ -1,12 +1,11 @@
 -- What each status of the top call tells.
-use Rattle.std.specs.Prelude.{◌≡◌, ℕ, ◌≤◌, ◌+◌, ◌⊎◌, true, List, Option, None, Some}
+use Rattle.std.specs.Prelude.{◌≡◌, ℕ, ◌⊎◌, true, List, Option, None, Some}
 use Rattle.trio_io.specs.Outside.{Rose}
 use Rattle.trio_main.specs.declared.status.Status.{Status}
 use Rattle.trio_main.specs.declared.status.Status.TheVariants as status
 use Rattle.trio_main.specs.declared.fault.Fault.TheVariants as fault
 use Rattle.trio_main.specs.declared.command.Command.{Command}
 use Rattle.trio_main.specs.declared.command.Command.TheVariants as command
-use Rattle.trio_main.specs.Words.{files_read}
 use Rattle.trio_main.specs.Messages.{true_line, usage_line}
 use Rattle.trio_main.specs.Due.{Due, IsTrueIn, IsFalseIn, IsRefused, FirstFault}
 use Rattle.trio_main.specs.Outside.{Shelves, Sinks, WritesAll, WritesPart, HasReadCause}
