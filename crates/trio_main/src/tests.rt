@@ -326,3 +326,19 @@ fn long_and_empty_files(rt: HostRuntime) -> Result<(), Fail> {
     }
     Ok(())
 }
+
+/// For runs in which one allocation fails: each answer is the row's or want of memory. An allocation of the test's own that fails ends it.
+#[test]
+fn memory_may_run_out(rt: HostRuntime) {
+    let rows = [
+        ("p: 0 0 0", Status::Done, "true\n"),
+        ("p: 0 ? 1", Status::Refused, "refused history\n"),
+    ];
+    for (history, status, text) in rows {
+        if let Ok(answer) = checked(&rt, rt.alloc(), IMPLIES_NEXT.as_bytes(), history.as_bytes()) {
+            let is_row = answer.0 == status && answer.1.as_slice() == text.as_bytes();
+            let is_memory = answer.0 == Status::Memory && answer.1.as_slice() == b"fault memory\n";
+            assert!(rt; is_row || is_memory, "{history}");
+        }
+    }
+}
