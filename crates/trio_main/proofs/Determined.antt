@@ -8,7 +8,8 @@ use Rattle.trio_types.specs.declared.spec.Axiom.{Axiom}
 use Rattle.trio_types.specs.declared.spec.Spec.{Spec}
 use Rattle.trio_types.specs.World.{World}
 use Rattle.trio_types.specs.Truth.{truth}
-use Rattle.trio_types.specs.Verdict.{world_of, first_false, demands_of, demands_of_axiom}
+use Rattle.trio_types.specs.Verdict.{world_of, first_false}
+use Rattle.trio_types.proofs.Verdicts.{first_false_is}
 use Rattle.trio_reader.specs.declared.fault.SpecFault.TheVariants as spec_fault
 use Rattle.trio_reader.specs.Laws.{SameSpec, OneSpecification}
 use Rattle.history_check.specs.declared.table.HistFault.TheVariants as hist_fault
@@ -29,16 +30,6 @@ use Rattle.trio_main.specs.Due.{limit_of, IsSpecFile, IsHistoryFile, SpecFileFau
 
 same_world : (a b : Spec) → SameSpec a b → world_of a ≡ world_of b
 same_world a b same = rw (same.instants, same.domains, same.items) refl
-
-first_false_by : World → List Axiom → List ℕ → Option (ℕ × ℕ)
-first_false_by world axioms table =
-    option_map (λ demand. (demand.number, demand.instant))
-    (find (λ demand. not (truth world demand.axiom_.formula [] table demand.instant))
-    (flat_map (λ p. demands_of_axiom world p.0 p.1) (enumerate_from 0 axioms)))
-
-first_false_is : (a : Spec) (table : List ℕ) → first_false a table ≡ first_false_by (world_of a) a.axioms table
-unfolding first_false_by demands_of
-first_false_is a table = refl
 
 first_false_same : (a b : Spec) (table : List ℕ) → SameSpec a b → first_false a table ≡ first_false b table
 first_false_same a b table same =
