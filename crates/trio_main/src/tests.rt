@@ -33,7 +33,7 @@ fn ended(
     files: Files,
     failing: Counts,
     mut out: MemSink,
-) -> Result<(Status, Vec<u8>), Fail> {
+) -> Result<(Status, Vec<u8>), AllocError> {
     let words = words_of(alloc, line)?;
     let mut shelf = MemShelf::new(alloc, files, failing)?;
     let mut bell = StillBell::new();
@@ -56,7 +56,7 @@ fn checked(
     alloc: Global,
     spec: &[u8],
     history: &[u8],
-) -> Result<(Status, Vec<u8>), Fail> {
+) -> Result<(Status, Vec<u8>), AllocError> {
     let files = two_files(alloc, spec, history)?;
     let out = MemSink::new(alloc, 4096, 4096, Counts::new(alloc))?;
     ended(rt, alloc, "check s h", files, Counts::new(alloc), out)
@@ -337,7 +337,7 @@ fn memory_may_run_out(rt: HostRuntime) {
     for (history, status, text) in rows {
         if let Ok(answer) = checked(&rt, rt.alloc(), IMPLIES_NEXT.as_bytes(), history.as_bytes()) {
             let is_row = answer.0 == status && answer.1.as_slice() == text.as_bytes();
-            let is_memory = answer.0 == Status::Memory && answer.1.as_slice() == b"fault memory\n";
+            let is_memory = answer.0 == Status::Memory && answer.1.as_slice() == "fault memory\n".as_bytes();
             assert!(rt; is_row || is_memory, "{history}");
         }
     }
