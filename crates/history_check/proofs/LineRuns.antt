@@ -25,10 +25,10 @@ unfolding run
 run_is n [] = refl
 run_is n (t ∷ ts) = ap length (take_while-cons (λ u. u.line == n) t ts) ∙ counted (t.line == n) t _ _ (run_is n ts)
 
-eq_true : (m n : ℕ) → m ≡ n → (m == n) ≡ true
+pub eq_true : (m n : ℕ) → m ≡ n → (m == n) ≡ true
 eq_true m n e = grind (arith, nat_tests)
 
-eq_from : (m n : ℕ) → (m == n) ≡ true → m ≡ n
+pub eq_from : (m n : ℕ) → (m == n) ≡ true → m ≡ n
 eq_from m n e = grind (arith, nat_tests)
 
 run_first : (n : ℕ) (t : Token) (ts : List Token) → t.line ≡ n → run n (t ∷ ts) ≡ suc (run n ts)

@@ -16,6 +16,9 @@ use Rattle.trio_types.specs.World.{World, size_of, kind_size}
 use Rattle.trio_types.specs.Cells.{Cell, IsTable, instants_of, tuples, cells_of_item, cells_of, cell_size}
 use Rattle.trio_types.specs.WellFormed.{item_fits, is_bool_alone}
 use Rattle.trio_types.specs.Verdict.{world_of}
+use Rattle.trio_text.proofs.Runs.{not_false}
+use Rattle.trio_types.proofs.CellNumbers.{no_args}
+use Rattle.history_check.proofs.LineRuns.{eq_true, eq_from}
 use Rattle.history_check.specs.declared.table.Entry.{Entry}
 use Rattle.history_check.specs.declared.table.Entry.TheVariants as entry
 use Rattle.history_check.specs.declared.table.Row.{Row}
@@ -63,9 +66,6 @@ given_below lines (item ∷ items) =
     let front : List (Option ℕ) = cells_of_line (find (is_row item.name) lines) in
     let back : List (Option ℕ) = flat_map (λ item. cells_of_line (find (is_row item.name) lines)) items in
     list_all-append is_below front back ∙ ap₂ ◌&&◌ (line_below (find (is_row item.name) lines)) (given_below lines items)
-
-eq_from : (m n : ℕ) → (m == n) ≡ true → m ≡ n
-eq_from m n e = grind (arith, nat_tests)
 
 -- a sound row has a value for each instant
 row_sized : (world : World) (is_taken : List ℕ → Bool) (number : ℕ) (row : Option Row) → row_fault world is_taken number row ≡ None →
@@ -117,19 +117,11 @@ both : (a b : Bool) → (a && b) ≡ true → (a ≡ true) × (b ≡ true)
 both true b e = (refl, e)
 both false b e = cc
 
-not_false : (b : Bool) → not b ≡ false → b ≡ true
-not_false true e = refl
-not_false false e = cc
-
-no_args : (item : Item) (args : List ℕ) → item_fits (record item { args = args }) ≡ true → args ≡ []
-no_args item [] e = refl
-no_args item (a ∷ args) e = cc
-
 -- an item without arguments has a cell for each instant
 cells_are : (world : World) (n : ℕ) (item : Item) → item_fits item ≡ true →
     cells_of_item world n item ≡ map (λ i. record { item = n; args = []; instant = i }) (instants_of world)
 cells_are world n item fits =
-    ap (λ args. flat_map (λ vs. map (λ i. record { item = n; args = vs; instant = i }) (instants_of world)) (tuples world.domains args)) (no_args item item.args fits)
+    ap (λ args. flat_map (λ vs. map (λ i. record { item = n; args = vs; instant = i }) (instants_of world)) (tuples world.domains args)) (no_args item fits)
     ∙ append-nil _
 
 instants_sized : (world : World) → length (instants_of world) ≡ world.instants
@@ -172,9 +164,6 @@ two_values world cell alone fits less =
     let at = fits_at world.items cell.item fits less in
     let value : at.0.value ≡ 0 = eq_from at.0.value 0 (both _ (at.0.value == 0) at.2).1 in
     rw at.1 (ap (size_of world.domains) value ∙ bool_size world.domains alone)
-
-eq_true : (m n : ℕ) → m ≡ n → (m == n) ≡ true
-eq_true m n e = grind (arith, nat_tests)
 
 all_true : (test : ℕ → Bool) → ((x : ℕ) → test x ≡ true) → (xs : List ℕ) → list_all test xs ≡ true
 all_true test each [] = refl

@@ -1,4 +1,4 @@
-// How many brackets are open.
+//! How many brackets are open.
 ghost use Rattle.std.specs.Prelude.{◌≡◌, ◌+◌, ◌≤◌, ◌<◌, ◌^◌, length};
 ghost use Rattle.trio_syntax.specs.Depth.{open_after, first_deep};
 

@@ -1,4 +1,4 @@
-// The rows of formulas.
+//! The rows of formulas.
 ghost use Rattle.std.specs.Prelude.{◌≡◌, ◌+◌, false, length};
 ghost use Rattle.trio_syntax.specs.Grammar.{IsFormula, IsDisj, IsConj, IsUnary, IsPrimary, and_of, or_of};
 ghost use Rattle.trio_syntax.specs.Exact.{Exact};

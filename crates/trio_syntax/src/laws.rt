@@ -1,4 +1,4 @@
-// What follows of the definitions alone.
+//! What follows of the definitions alone.
 ghost use Rattle.std.specs.Prelude.{◌≡◌, ℕ, true, List, ◌++◌, map};
 ghost use Rattle.std.specs.List.{list_all};
 ghost use Rattle.trio_base.specs.Names.{is_name};

@@ -1,4 +1,4 @@
-// Where the reader stands in a list of tokens.
+//! Where the reader stands in a list of tokens.
 ghost use Rattle.std.specs.Prelude.{ℕ, ◌+◌, ◌<◌, ◌^◌, length};
 
 use std::alloc::Global;

@@ -1,4 +1,4 @@
-// The reader of trees.
+//! The reader of trees.
 ghost use Rattle.trio_syntax.specs.Answer.{IsTree};
 
 use crate::depth::first_deep;

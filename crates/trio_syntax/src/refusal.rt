@@ -1,4 +1,4 @@
-// Why a part of a text was not read.
+//! Why a part of a text was not read.
 use std::alloc::AllocError;
 
 /// Why a part of a text was not read. The parser then stands where no text of the part goes on.

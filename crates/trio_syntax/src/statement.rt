@@ -1,4 +1,4 @@
-// The rows of statements, and the whole text.
+//! The rows of statements, and the whole text.
 ghost use Rattle.std.specs.Prelude.{◌≡◌, ◌+◌, length};
 ghost use Rattle.trio_syntax.specs.Grammar.{IsItem, IsAt, IsAxiom, Many, IsSpec};
 ghost use Rattle.trio_syntax.specs.Exact.{Exact};

@@ -1,4 +1,4 @@
-// Steps of the parser by one token.
+//! Steps of the parser by one token.
 ghost use Rattle.std.specs.Prelude.{◌≡◌, ◌+◌, ℕ, List, ◌∷◌, ◌++◌, [], length, MatchOption, MatchResult};
 ghost use Rattle.std.specs.Bool.{OnTrue, OnFalse};
 ghost use Rattle.trio_syntax.specs.Exact.{Stops, Lacks, Taken};

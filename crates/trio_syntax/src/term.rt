@@ -1,4 +1,4 @@
-// The rows of terms.
+//! The rows of terms.
 ghost use Rattle.std.specs.Prelude.{◌≡◌, ◌+◌, length};
 ghost use Rattle.trio_syntax.specs.Grammar.{IsTerm, IsFactor};
 ghost use Rattle.trio_syntax.specs.Exact.{Exact};
