@@ -1,13 +1,9 @@
 -- For told files one answer is due.
-use Rattle.std.proofs.Common.{◌≡◌, ℕ, ◌<◌, ◌≤◌, ◌⊎◌, inl, inr, Bool, true, List, [], length, Option, None, Some, refl, sym, ◌∙◌, ap, arith}
-use Rattle.std.specs.Prelude.{find, not, IsSomeAnd}
-use Rattle.std.specs.List.{flat_map, enumerate_from}
-use Rattle.std.specs.Option.{option_map}
+use Rattle.std.proofs.Common.{◌≡◌, ℕ, ◌<◌, ◌≤◌, ◌⊎◌, inl, inr, Bool, true, List, length, Option, None, Some, refl, sym, ◌∙◌, ap, arith}
+use Rattle.std.specs.Prelude.{IsSomeAnd}
 use Rattle.trio_io.specs.Outside.{FileMap, Rose}
-use Rattle.trio_types.specs.declared.spec.Axiom.{Axiom}
 use Rattle.trio_types.specs.declared.spec.Spec.{Spec}
 use Rattle.trio_types.specs.World.{World}
-use Rattle.trio_types.specs.Truth.{truth}
 use Rattle.trio_types.specs.Verdict.{world_of, first_false}
 use Rattle.trio_types.proofs.Verdicts.{first_false_is}
 use Rattle.trio_reader.specs.declared.fault.SpecFault.TheVariants as spec_fault

@@ -337,7 +337,8 @@ fn memory_may_run_out(rt: HostRuntime) {
     for (history, status, text) in rows {
         if let Ok(answer) = checked(&rt, rt.alloc(), IMPLIES_NEXT.as_bytes(), history.as_bytes()) {
             let is_row = answer.0 == status && answer.1.as_slice() == text.as_bytes();
-            let is_memory = answer.0 == Status::Memory && answer.1.as_slice() == "fault memory\n".as_bytes();
+            let is_memory = answer.0 == Status::Memory
+                && answer.1.as_slice() == "fault memory\n".as_bytes();
             assert!(rt; is_row || is_memory, "{history}");
         }
     }
