@@ -343,3 +343,146 @@ fn memory_may_run_out(rt: HostRuntime) {
         }
     }
 }
+
+#[test]
+fn truth_of_each_form(rt: HostRuntime) -> Result<(), Fail> {
+    let rows = [
+        ("axiom A : p | !p;", "p: 0 1 1", Status::Done, "true\n"),
+        (
+            "axiom A : true -> [p];",
+            "p: 1 1 0",
+            Status::False,
+            "false A 2\n",
+        ),
+        (
+            "axiom A : p & p | false;",
+            "p: 1 0 1",
+            Status::False,
+            "false A 1\n",
+        ),
+        (
+            "axiom A : Dist(p, -1) -> p;",
+            "p: 0 1 0",
+            Status::False,
+            "false A 2\n",
+        ),
+        (
+            "axiom A : Dist(p, 1) | Dist(true, -2);",
+            "p: 0 1 1",
+            Status::Done,
+            "true\n",
+        ),
+        (
+            "axiom A : Dist(!p, 1);",
+            "p: 1 0 0",
+            Status::False,
+            "false A 2\n",
+        ),
+        ("axiom A : !Dist(p, 1);", "p: 1 0 0", Status::Done, "true\n"),
+        (
+            "axiom A : Dist(Dist(p, 1), -1) -> p;",
+            "p: 1 0 1",
+            Status::Done,
+            "true\n",
+        ),
+        (
+            "axiom A at 0 : Dist(true, 2) & !Dist(true, 3);",
+            "p: 0 0 0",
+            Status::Done,
+            "true\n",
+        ),
+        (
+            "axiom A at 2 : Dist(true, -3);",
+            "p: 0 0 0",
+            Status::False,
+            "false A 2\n",
+        ),
+        (
+            "axiom A : Dist(p, -0) -> Dist(p, 0);",
+            "p: 0 1 0",
+            Status::Done,
+            "true\n",
+        ),
+        (
+            "axiom A : Dist(true, 1000000);",
+            "p: 1 1 1",
+            Status::False,
+            "false A 0\n",
+        ),
+        (
+            "axiom A : !Dist(true, -1000000);",
+            "p: 1 1 1",
+            Status::Done,
+            "true\n",
+        ),
+        (
+            "axiom A at 1 : p; axiom B : p;",
+            "p: 0 1 1",
+            Status::False,
+            "false B 0\n",
+        ),
+        (
+            "axiom A : p; axiom B : false;",
+            "p: 1 1 0",
+            Status::False,
+            "false A 2\n",
+        ),
+        ("", "p: 0 1 0", Status::Done, "true\n"),
+    ];
+    let alloc = rt.alloc();
+    for (axioms, history, status, text) in rows {
+        let spec = format!(in alloc; "time 3; item p : bool; {axioms}")?;
+        let answer = checked(&rt, alloc, spec.as_bytes(), history.as_bytes())?;
+        assert_eq!(rt; answer.0, status, "{axioms}");
+        assert_eq!(rt; answer.1.as_slice(), text.as_bytes(), "{axioms}");
+    }
+    Ok(())
+}
+
+#[test]
+fn histories_in_every_form(rt: HostRuntime) -> Result<(), Fail> {
+    let spec = "time 2; item p : bool; input q : bool; axiom A : p -> q;";
+    let accepted = [
+        ("p: 0 1\nq: 1 1", Status::Done),
+        ("p:0 1\nq:0 0\n", Status::False),
+        ("q: true true // all\n\n p\t:\t0 01\r\n", Status::Done),
+        ("p: 000 true\nq: - 0 -0", Status::False),
+        ("// none\np: false 1//1\nq: -00 1", Status::Done),
+    ];
+    for (history, status) in accepted {
+        let answer = checked(&rt, rt.alloc(), spec.as_bytes(), history.as_bytes())?;
+        assert_eq!(rt; answer.0, status, "{history}");
+    }
+    let refused: [&[u8]; 20] = [
+        b"",
+        b"// p: 0 1",
+        b"p: 0 1",
+        b"p: 0 1\nq: 1 1\np: 0 1",
+        b"p: 0 1\nq: 1",
+        b"p: 0 1\nq: 1 1 1",
+        b"p: 01\nq: 1 1",
+        b"p: 0 2\nq: 1 1",
+        b"p: 0 -1\nq: 1 1",
+        b"p: 0 x\nq: 1 1",
+        b"p: 0 ?\nq: 1 1",
+        b"r: 0 1\np: 0 1\nq: 1 1",
+        b"A: 0 1\np: 0 1\nq: 1 1",
+        b"p 0 1\nq: 1 1",
+        b"p: 0 1 q: 1 1",
+        b"p(): 0 1\nq: 1 1",
+        b"p: 0\n1\nq: 1 1",
+        b"p: 0 -\n1\nq: 1 1",
+        b"p: 0 1\nq: 1 1\n\xff",
+        b"p: 0 1\nq: 1 1\n/",
+    ];
+    for history in refused {
+        let answer = checked(&rt, rt.alloc(), spec.as_bytes(), history)?;
+        assert_eq!(rt; answer.0, Status::Refused, "{history:?}");
+        assert_eq!(rt;
+            answer.1.as_slice(),
+            b"refused history\n".as_slice(),
+            "{history:?}"
+        );
+    }
+    Ok(())
+}
