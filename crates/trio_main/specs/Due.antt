@@ -22,7 +22,7 @@ abbrev pub limit_of : Text → ℕ
 limit_of text.Spec = 262144
 limit_of text.History = 1048576
 
--- The file is this specification. Where the shelf tells its files, the bytes are those that it tells; else they are the bytes that came.
+-- The file is this specification. Where the shelf tells its files, the bytes are the file's; else it is only said that there are such bytes.
 pub record IsSpecFile (tells : Bool) (file : Option (List ℕ)) (spec : Spec) : Type 0 where
   pub bytes : List ℕ
   pub there : tells ≡ true → file ≡ Some bytes

@@ -17,7 +17,7 @@ use trio_base::Name;
 use trio_io::{Bell, Shelf, Sink, write_whole};
 use trio_reader::text_has_one_specification;
 
-/// Whom to ask for: the line that names every command.
+/// The usage line: it names every command, also those that are not built yet.
 const USAGE: &str =
     "usage: trio check SPEC HIST | complete SPEC HIST [--workers=N] [--limit=N] [--seconds=N] [--save=NAME] | resume FRONTIER [the same] | cases SPEC HIST GOAL [--workers=N] | play SPEC HIST SCHEDULE | bench NUMBER [--workers=N]\n";
 
