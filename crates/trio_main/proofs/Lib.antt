@@ -1,4 +1,4 @@
-pub mod Verdicts
+pub mod Checks
 pub mod Jobs
-pub mod Tellings
-pub mod Determined
+pub mod Loaded
+pub mod Pieces
