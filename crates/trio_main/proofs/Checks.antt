@@ -1,6 +1,5 @@
 -- From what `check` loads to its answer.
-use Rattle.std.proofs.Common.{◌≡◌, ℕ, ◌+◌, ◌≤◌, ◌⊎◌, inl, inr, List, Option, None, Some, Result, Ok, Err, refl, sym, ◌∙◌, ap, arith}
-use Rattle.std.specs.Prelude.{map}
+use Rattle.std.proofs.Common.{◌≡◌, ℕ, inl, inr, List, Option, Some, Result, Ok, Err, refl, sym, ◌∙◌, ap, arith}
 use Rattle.trio_io.specs.Outside.{ShelfView, OnlyReads}
 use Rattle.trio_types.specs.declared.spec.Spec.{Spec}
 use Rattle.trio_types.specs.Verdict.{world_of, first_false}
@@ -8,18 +7,14 @@ use Rattle.history_check.specs.declared.checker.Verdict.{Verdict}
 use Rattle.history_check.specs.declared.checker.Verdict.TheVariants as verdict
 use Rattle.history_check.specs.Answers.{verdict_of}
 use Rattle.trio_main.specs.declared.answer.Answer.{Answer}
-use Rattle.trio_main.specs.declared.status.Status.{Status}
 use Rattle.trio_main.specs.declared.status.Status.TheVariants as status
 use Rattle.trio_main.specs.declared.fault.Text.TheVariants as text
 use Rattle.trio_main.specs.declared.fault.Fault.{Fault}
-use Rattle.trio_main.specs.declared.fault.Fault.TheVariants as fault
-use Rattle.trio_main.specs.declared.command.Command.{Command}
 use Rattle.trio_main.specs.declared.command.Command.TheVariants as command
-use Rattle.trio_main.specs.Text.{text_of}
 use Rattle.trio_main.specs.Fault.{status_of}
 use Rattle.trio_main.specs.Message.{message}
-use Rattle.trio_main.specs.Load.{ReadsHistory, YieldsSpec, YieldsHistory, HasCause, Loads}
-use Rattle.trio_main.specs.Check.{CheckFault, CheckDue, Judges, IsVerdictOn, IsUnknown, verdict_status, verdict_text}
+use Rattle.trio_main.specs.Load.{ReadsHistory, YieldsSpec, YieldsHistory, HasCause}
+use Rattle.trio_main.specs.Check.{CheckFault, CheckDue, Judges, verdict_status}
 use Rattle.trio_main.specs.Answer.{Answers, Computes}
 use Rattle.trio_main.proofs.Jobs.{cause_answers}
 use Rattle.trio_main.proofs.Loaded.{yields_earlier, cause_earlier}
@@ -77,15 +72,18 @@ judged_computes before middle now s h spec given (Err f) reads later first secon
     inr (inr (record { status_is = ap status_of want; text_is = ap message want }))
 judged_computes before middle now s h spec given (Err f) reads later first second (inr unknown) = inl (record {
   reads = 2;
-  due = fault_due before s h 2 f (inr (refl, record {
-    spec = spec;
-    given = given;
-    loaded = record {
-      first = first;
-      second = yields_earlier (ReadsHistory (world_of spec)) text.History before middle h (Ok given) 1 reads second;
-    };
-    unknown = unknown;
-  }));
+  due = fault_due before s h 2 f (inr (
+    refl,
+    record {
+      spec = spec;
+      given = given;
+      loaded = record {
+        first = first;
+        second = yields_earlier (ReadsHistory (world_of spec)) text.History before middle h (Ok given) 1 reads second;
+      };
+      unknown = unknown;
+    },
+  ));
   fetched = omega (arith, reads.counts.at_most, later.counts.at_most);
   absent = λ is. let refused : status_of f ≡ status.Refused = ap status_of unknown.is in absurd (let wrong : status.Refused ≡ status.ReadFault = sym refused ∙ is in cc);
 })

@@ -1,20 +1,17 @@
 -- From the fault or the answer of a job to what the top call ends with, for every command.
-use Rattle.std.proofs.Common.{◌≡◌, ℕ, ◌+◌, ◌<◌, ◌≤◌, ◌⊎◌, inl, inr, List, Option, None, Some, Result, Ok, Err, refl, sym, ◌∙◌, ap, arith}
-use Rattle.trio_io.specs.Outside.{ShelfView, SinkView, OnlyReads, Writes, WritesPart}
-use Rattle.trio_main.specs.declared.answer.Answer.{Answer}
+use Rattle.std.proofs.Common.{◌≡◌, ℕ, ◌+◌, ◌<◌, ◌≤◌, inl, inr, List, Option, None, Result, Ok, Err, refl, ap, arith}
+use Rattle.trio_io.specs.Outside.{ShelfView, SinkView}
 use Rattle.trio_main.specs.declared.status.Status.{Status}
 use Rattle.trio_main.specs.declared.status.Status.TheVariants as status
 use Rattle.trio_main.specs.declared.fault.Fault.{Fault}
 use Rattle.trio_main.specs.declared.fault.Fault.TheVariants as fault
 use Rattle.trio_main.specs.declared.command.Command.{Command}
-use Rattle.trio_main.specs.declared.command.Command.TheVariants as command
 use Rattle.trio_main.specs.Command.{files_read}
-use Rattle.trio_main.specs.Text.{text_of}
 use Rattle.trio_main.specs.Fault.{status_of}
-use Rattle.trio_main.specs.Message.{message}
+use Rattle.trio_main.specs.Message.{message, usage_line}
 use Rattle.trio_main.specs.Load.{HasCause}
 use Rattle.trio_main.specs.Due.{Due}
-use Rattle.trio_main.specs.Answer.{Answers, Computes, Gives, Ends, Says, Finishes}
+use Rattle.trio_main.specs.Answer.{IsDue, Answers, Gives, Ends, Says, Finishes}
 
 read_status : (f : Fault) → status_of f ≡ status.ReadFault → f ≡ fault.Read
 read_status fault.Read is = refl
@@ -55,3 +52,12 @@ ended_said asked before now old middle new f result none (inr ends) (inl silent)
     absurd (none (message f) (rw (ap status_of silent.0) at ends.0))
 ended_said asked before now old middle new f result none (inr ends) (inr said) =
     (status_of f, message f, ends.0, rw ends.1 at said.1)
+
+-- the usage line is due, and nothing was fetched
+pub usage_due : (now : ShelfView) → IsDue None now now status.Usage usage_line
+usage_due now = record {
+  reads = 0;
+  due = record { reads_none = refl; status_is = refl; text_is = refl };
+  fetched = omega arith;
+  absent = λ is. cc;
+}

@@ -1,10 +1,9 @@
 -- What files yield, seen from before an earlier fetch.
-use Rattle.std.proofs.Common.{◌≡◌, ℕ, ◌≤◌, ◌⊎◌, inl, inr, List, Option, None, Some, Result, Ok, Err, refl, sym, ◌∙◌, ap, arith}
-use Rattle.trio_io.specs.Outside.{ShelfView, OnlyReads, Holds, IsLonger}
+use Rattle.std.proofs.Common.{ℕ, inl, inr, List, Result, sym, ◌∙◌, arith}
+use Rattle.trio_io.specs.Outside.{ShelfView, OnlyReads}
 use Rattle.trio_main.specs.declared.fault.Text.{Text}
 use Rattle.trio_main.specs.declared.fault.Fault.{Fault}
-use Rattle.trio_main.specs.declared.fault.Fault.TheVariants as fault
-use Rattle.trio_main.specs.Load.{limit_of, IsFile, FileFault, Yields, HasCause}
+use Rattle.trio_main.specs.Load.{FileFault, Yields, HasCause}
 
 file_earlier : (which : Text) (before middle : ShelfView) (name : List ℕ) (f : Fault) (most : ℕ) → OnlyReads most before middle →
     FileFault which middle name f → FileFault which before name f

@@ -1,5 +1,5 @@
 -- Lines that are written in pieces.
-use Rattle.std.proofs.Common.{◌≡◌, ℕ, List, [], ◌∷◌, ◌++◌, Result, codes, decimal, subst, arith, append_assoc}
+use Rattle.std.proofs.Common.{◌≡◌, ℕ, List, [], ◌++◌, Result, codes, decimal, subst, arith}
 use Rattle.std.proofs.lemmas.Grind.{common_steps}
 use Rattle.trio_io.specs.Outside.{SinkView, Wrote}
 use Rattle.trio_io.specs.declared.sink.SinkFault.{SinkFault}

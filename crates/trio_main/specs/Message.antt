@@ -6,6 +6,7 @@ use Rattle.trio_reader.specs.declared.fault.SpecFault.{SpecFault}
 use Rattle.trio_reader.specs.declared.fault.SpecFault.TheVariants as spec_fault
 use Rattle.history_check.specs.declared.table.HistFault.{HistFault}
 use Rattle.history_check.specs.declared.table.HistFault.TheVariants as history_fault
+use Rattle.trio_main.specs.declared.fault.Text.{Text}
 use Rattle.trio_main.specs.declared.fault.Text.TheVariants as text
 use Rattle.trio_main.specs.declared.fault.Fault.{Fault}
 use Rattle.trio_main.specs.declared.fault.Fault.TheVariants as fault
@@ -16,6 +17,11 @@ usage_line = codes "usage: trio check SPEC HIST | complete SPEC HIST [--workers=
 -- a line of words and a number
 abbrev pub numbered : List ℕ → ℕ → List ℕ
 numbered words number = words ++ decimal number ++ codes "\n"
+
+-- the line of a text that is longer than its limit
+abbrev pub long_line : Text → List ℕ
+long_line text.Spec = codes "refused spec long\n"
+long_line text.History = codes "refused history long\n"
 
 -- the words on a count that is above its limit
 abbrev pub limit_words : Which → List ℕ
@@ -52,8 +58,7 @@ history_message history_fault.Memory = codes "refused history memory\n"
 -- the message of a fault; a failed write has none
 abbrev pub message : Fault → List ℕ
 message fault.Read = codes "fault read\n"
-message (fault.TooLong text.Spec) = codes "refused spec long\n"
-message (fault.TooLong text.History) = codes "refused history long\n"
+message (fault.TooLong which) = long_line which
 message (fault.Spec f) = spec_message f
 message (fault.History f) = history_message f
 message (fault.Missing row) = codes "refused history missing " ++ row ++ codes "\n"

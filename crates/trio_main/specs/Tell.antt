@@ -1,6 +1,6 @@
 -- What each status of the top call tells, for every command.
 use Rattle.std.specs.Prelude.{◌≡◌, ◌≢◌, ℕ, ◌+◌, ◌<◌, ◌≤◌, ◌⊎◌, true, List, Option, None, Some}
-use Rattle.trio_io.specs.Outside.{ShelfView, SinkView, Rose, Writes, WritesPart}
+use Rattle.trio_io.specs.Outside.{ShelfView, SinkView, Rose, Writes}
 use Rattle.trio_main.specs.declared.status.Status.{Status}
 use Rattle.trio_main.specs.declared.status.Status.TheVariants as status
 use Rattle.trio_main.specs.declared.fault.Fault.TheVariants as fault
@@ -8,7 +8,7 @@ use Rattle.trio_main.specs.declared.command.Command.{Command}
 use Rattle.trio_main.specs.Command.{files_read, saved_name}
 use Rattle.trio_main.specs.Message.{message, usage_line}
 use Rattle.trio_main.specs.Due.{Due}
-use Rattle.trio_main.specs.Answer.{Answers, IsBroken}
+use Rattle.trio_main.specs.Answer.{IsBroken}
 
 -- statuses 0, 1 and 4: this is the answer due, its text was written, and no more files were fetched than it takes to know it
 pub record TellsDue (asked : Option Command) (before now : ShelfView) (old new : SinkView) (s : Status) : Type 0 where

@@ -1,7 +1,7 @@
 //! Writes what is said of a fault. It takes no memory.
 ghost use Rattle.std.specs.Prelude.{◌≡◌, ◌++◌, codes, decimal};
 ghost use Rattle.trio_io.specs.Outside.{Wrote};
-ghost use Rattle.trio_main.specs.Message.{numbered, limit_words, spec_message, history_message, message};
+ghost use Rattle.trio_main.specs.Message.{numbered, long_line, limit_words, spec_message, history_message, message};
 ghost use Rattle.trio_main.specs.Answer.{Says};
 
 use crate::fault::{Fault, Text};
@@ -29,14 +29,22 @@ fn write_message<K: Sink>(out: &mut K, fault: &Fault) -> Result<(), SinkFault>
 {
     match fault {
         Fault::Read => write_whole(out, b"fault read\n"),
-        Fault::TooLong(Text::Spec) => write_whole(out, b"refused spec long\n"),
-        Fault::TooLong(Text::History) => write_whole(out, b"refused history long\n"),
+        Fault::TooLong(which) => write_whole(out, long_line(*which).as_bytes()),
         Fault::Spec(fault) => write_spec_fault(out, *fault),
         Fault::History(fault) => write_history_fault(out, *fault),
         Fault::Missing(row) => write_missing(out, row.as_str()),
         Fault::Unknown(row, instant) => write_unknown(out, row.as_str(), *instant),
         Fault::Write => Ok(()),
         Fault::Memory => write_whole(out, b"fault memory\n"),
+    }
+}
+
+fn long_line(which: Text) -> &'static str
+    ensures { result.now ≡ long_line which }
+{
+    match which {
+        Text::Spec => "refused spec long\n",
+        Text::History => "refused history long\n",
     }
 }
 

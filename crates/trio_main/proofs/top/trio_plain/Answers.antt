@@ -1,0 +1,17 @@
+-- What each status tells is read off the one answer.
+use Rattle.trio_main.proofs.Tellings.{tells, none_ends, tells_check, gives_due}
+use Rattle.trio_main.proofs.top.trio_plain.Goals as goal
+
+pub returns-clause-tells : goal.returns-clause-tells
+returns-clause-tells g c = tells _ _ _ _ _ c.run.result c.run.ensures.answer
+
+pub returns-clause-due : goal.returns-clause-due
+returns-clause-due g c =
+    gives_due c.text_has_one_specification.ensures c.text_has_one_fault.ensures c.faulty_text_is_no_specification.ensures
+    c.text_has_one_history.ensures _ _ _ _ _ c.run.result c.run.ensures.answer
+
+pub returns-clause-no_command : goal.returns-clause-no_command
+returns-clause-no_command g c = none_ends _ _ _ _ _ c.run.result c.run.ensures.answer
+
+pub returns-clause-check : goal.returns-clause-check
+returns-clause-check g c = tells_check _ _ _ _ _ c.run.result c.run.ensures.answer
