@@ -41,7 +41,7 @@ history_fault_answers before middle now s h spec f reads later first cause =
     (cause_earlier before middle now _ _ f 1 reads
     (λ g y. yields_earlier (ReadsHistory (world_of spec)) text.History before middle h (Err g) 1 reads y) cause)
 
-verdict_read : (v : Verdict) → verdict_status v ≡ status.ReadFault → ⊥
+pub verdict_read : (v : Verdict) → verdict_status v ≡ status.ReadFault → ⊥
 verdict_read verdict.True is = cc
 verdict_read (verdict.False number instant) is = cc
 

@@ -1,27 +1,17 @@
 -- From the fault or the answer of a job to what the top call ends with, for every command.
-use Rattle.std.proofs.Common.{◌≡◌, ℕ, ◌+◌, ◌<◌, ◌≤◌, inl, inr, List, Option, None, Result, Ok, Err, refl, ap, arith}
+use Rattle.std.proofs.Common.{ℕ, ◌+◌, ◌<◌, ◌≤◌, inl, inr, List, Option, None, Result, Ok, Err, refl, ap, arith}
 use Rattle.trio_io.specs.Outside.{ShelfView, SinkView}
 use Rattle.trio_main.specs.declared.status.Status.{Status}
 use Rattle.trio_main.specs.declared.status.Status.TheVariants as status
 use Rattle.trio_main.specs.declared.fault.Fault.{Fault}
-use Rattle.trio_main.specs.declared.fault.Fault.TheVariants as fault
 use Rattle.trio_main.specs.declared.command.Command.{Command}
 use Rattle.trio_main.specs.Command.{files_read}
 use Rattle.trio_main.specs.Fault.{status_of}
 use Rattle.trio_main.specs.Message.{message, usage_line}
 use Rattle.trio_main.specs.Load.{HasCause}
 use Rattle.trio_main.specs.Due.{Due}
+use Rattle.trio_main.proofs.FileFaults.{read_status}
 use Rattle.trio_main.specs.Answer.{IsDue, Answers, Gives, Ends, Says, Finishes}
-
-read_status : (f : Fault) → status_of f ≡ status.ReadFault → f ≡ fault.Read
-read_status fault.Read is = refl
-read_status (fault.TooLong which) is = cc
-read_status (fault.Spec f) is = cc
-read_status (fault.History f) is = cc
-read_status (fault.Missing row) is = cc
-read_status (fault.Unknown row instant) is = cc
-read_status fault.Write is = cc
-read_status fault.Memory is = cc
 
 -- a fault with its cause is an answer with its cause
 pub cause_answers : (asked : Option Command) (before now : ShelfView) (cause : Fault → Type 0) (reads : ℕ) (f : Fault) →

@@ -1,6 +1,7 @@
 pub mod CheckOne
 pub mod CheckTold
 pub mod Checks
+pub mod FileFaults
 pub mod Jobs
 pub mod Loaded
 pub mod Pieces

@@ -11,10 +11,10 @@ use Rattle.trio_main.specs.declared.command.Command.TheVariants as command
 use Rattle.trio_main.specs.Command.{files_read}
 use Rattle.trio_main.specs.Message.{message}
 use Rattle.trio_main.specs.Due.{Due}
-use Rattle.trio_main.specs.Check.{CheckTells, TellsCheck}
 use Rattle.trio_main.specs.Answer.{IsDue, Answers, Finishes}
 use Rattle.trio_main.specs.Tell.{Tells, GivesDue}
-use Rattle.trio_main.proofs.CheckTold.{IsDueStatus, check_status, check_read_text, check_tells}
+use Rattle.trio_main.proofs.FileFaults.{IsDueStatus}
+use Rattle.trio_main.proofs.CheckTold.{check_status, check_read_text}
 use Rattle.trio_main.proofs.CheckOne.{check_one}
 
 -- of each command: the statuses of an answer due, and its text where a file is not there
@@ -90,21 +90,6 @@ none_ends asked before now old new r ends none =
         | inr memory ↦ inr (inr (said.0 ∙ memory))
       ]
       | inr failed ↦ inr (inl failed.0)
-    ]
-
--- what a status tells of `check`
-check_answer_tells : (before now : ShelfView) (s h : List ℕ) (old new : SinkView) (st : Status) (text : List ℕ) →
-    Answers (Some (command.Check s h)) before now st text → Writes old new text → CheckTells before now s h old new st
-check_answer_tells before now s h old new st text (inl x) wrote = check_tells before now s h old new x.reads st text x.due x.fetched wrote
-check_answer_tells before now s h old new st text (inr (inl x)) wrote = rw (x.status_is) tt
-check_answer_tells before now s h old new st text (inr (inr x)) wrote = rw (x.status_is) tt
-
-pub tells_check : (asked : Option Command) (before now : ShelfView) (old new : SinkView) (r : Status) → Finishes asked before now old new r →
-    TellsCheck asked before now old new r
-tells_check asked before now old new r ends = λ s h is.
-    elim (ends.3) [
-      | inl said ↦ rw (said.0) (check_answer_tells before now s h old new ends.0 ends.1 (rw is at ends.2) said.1)
-      | inr failed ↦ rw (failed.0) tt
     ]
 
 -- what is known of the readers

@@ -119,7 +119,7 @@ pub record TellsFalse (before : ShelfView) (spec_name history_name : List ℕ) (
   pub fails : IsVerdict before spec_name history_name spec (verdict.False number instant)
   pub written : Writes old new (false_line spec number instant)
 
--- status 4: the first fault of the files, in the order of the words, was written; for that of the first file the second was not fetched
+-- status 4: the first fault of the files, in the order of the words, was written; for that of the first file the shelf was called once at most
 pub record TellsRefused (before now : ShelfView) (spec_name history_name : List ℕ) (old new : SinkView) : Type 0 where
   pub reads : ℕ
   pub named : Fault

@@ -1,11 +1,11 @@
 -- What each status of the top call tells, for every command.
 use Rattle.std.specs.Prelude.{◌≡◌, ◌≢◌, ℕ, ◌+◌, ◌<◌, ◌≤◌, ◌⊎◌, true, List, Option, None, Some}
-use Rattle.trio_io.specs.Outside.{ShelfView, SinkView, Rose, Writes}
+use Rattle.trio_io.specs.Outside.{ShelfView, SinkView, IsLater, Rose, Writes}
 use Rattle.trio_main.specs.declared.status.Status.{Status}
 use Rattle.trio_main.specs.declared.status.Status.TheVariants as status
 use Rattle.trio_main.specs.declared.fault.Fault.TheVariants as fault
 use Rattle.trio_main.specs.declared.command.Command.{Command}
-use Rattle.trio_main.specs.Command.{files_read, saved_name}
+use Rattle.trio_main.specs.Command.{files_read, files_named, saved_name}
 use Rattle.trio_main.specs.Message.{message, usage_line}
 use Rattle.trio_main.specs.Due.{Due}
 use Rattle.trio_main.specs.Answer.{IsBroken}
@@ -50,6 +50,9 @@ GivesDue asked before now old new result = (reads : ℕ) (s : Status) (text : Li
     (Rose before.counts.failed_fetches now.counts.failed_fetches → ⊥) → (Rose old.faults new.faults → ⊥) →
     ((result ≡ s) × Writes old new text) ⊎ (result ≡ status.Memory)
 
--- every file but the one that the command may save is as it was
-abbrev pub KeepsOthers : Option Command → ShelfView → ShelfView → Type 0
-KeepsOthers asked before now = (name : List ℕ) → saved_name asked ≢ Some name → now.file name ≡ before.file name
+-- What a call leaves: every file but the one that the command may save, and whether the shelf tells. No count fell, and that of calls rose by
+-- at most as many as the command has places of files.
+pub record Leaves (asked : Option Command) (before now : ShelfView) : Type 0 where
+  pub others : (name : List ℕ) → saved_name asked ≢ Some name → now.file name ≡ before.file name
+  pub tells : now.tells ≡ before.tells
+  pub counts : IsLater (files_named asked) before.counts now.counts

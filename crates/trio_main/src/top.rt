@@ -1,10 +1,9 @@
 //! The top call: words, files and a sink in, a status out.
-ghost use Rattle.std.specs.Prelude.{◌≡◌, ◌⊎◌, ◌+◌, ◌≤◌, Option, None, Some};
-ghost use Rattle.trio_io.specs.Outside.{OnlyReads};
-ghost use Rattle.trio_main.specs.Command.{words_of, command_of, files_read, files_named};
+ghost use Rattle.std.specs.Prelude.{◌≡◌, ◌≢◌, ◌⊎◌, ℕ, ◌+◌, ◌≤◌, List, None, Some};
+ghost use Rattle.trio_main.specs.Command.{words_of, command_of, files_named, saved_name};
 ghost use Rattle.trio_main.specs.Message.{usage_line};
 ghost use Rattle.trio_main.specs.Answer.{Said, Ends, Finishes};
-ghost use Rattle.trio_main.specs.Tell.{Tells, GivesDue, KeepsOthers};
+ghost use Rattle.trio_main.specs.Tell.{Tells, GivesDue, Leaves};
 ghost use Rattle.trio_main.specs.Check.{TellsCheck};
 
 use crate::check::job_check;
@@ -50,7 +49,7 @@ pub fn trio_plain<F: Shelf, K: Sink, B: Bell>(
 
     // What a call leaves: every file but one that the command saves, and a bell that is not armed. It has the shelf called at most as often as
     // the words have places of files.
-    ensures others { KeepsOthers (command_of (words_of words.now)) (F.seen shelf.old) (F.seen shelf.new) }
+    ensures others { (name : List ℕ) → saved_name (command_of (words_of words.now)) ≢ Some name → (F.seen shelf.new).file name ≡ (F.seen shelf.old).file name }
     ensures calls { (F.seen shelf.new).counts.calls ≤ (F.seen shelf.old).counts.calls + files_named (command_of (words_of words.now)) }
     ensures bell { bell.new ≡ bell.old }
 {
@@ -64,7 +63,7 @@ pub fn trio_plain<F: Shelf, K: Sink, B: Bell>(
 
 /// The words read as a command, and what it asks for.
 fn run<F: Shelf, K: Sink>(alloc: Global, words: &[String], shelf: &mut F, out: &mut K) -> Status
-    ensures reads { OnlyReads (files_read (command_of (words_of words.now))) (F.seen shelf.old) (F.seen shelf.new) }
+    ensures leaves { Leaves (command_of (words_of words.now)) (F.seen shelf.old) (F.seen shelf.new) }
     ensures unfetched { command_of (words_of words.now) ≡ None → F.seen shelf.new ≡ F.seen shelf.old }
     ensures answer { Finishes (command_of (words_of words.now)) (F.seen shelf.old) (F.seen shelf.new) (K.seen out.old) (K.seen out.new) result }
 {
@@ -87,7 +86,7 @@ fn say_usage<K: Sink>(out: &mut K) -> Status
 
 /// Does what the command asks for, and says its fault.
 fn serve<F: Shelf, K: Sink>(alloc: Global, command: &Command, shelf: &mut F, out: &mut K) -> Status
-    ensures reads { OnlyReads (files_read (Some command.now)) (F.seen shelf.old) (F.seen shelf.new) }
+    ensures leaves { Leaves (Some command.now) (F.seen shelf.old) (F.seen shelf.new) }
     ensures answer { Finishes (Some command.now) (F.seen shelf.old) (F.seen shelf.new) (K.seen out.old) (K.seen out.new) result }
 {
     match job(alloc, command, shelf, out) {
@@ -103,7 +102,7 @@ fn job<F: Shelf, K: Sink>(
     shelf: &mut F,
     out: &mut K,
 ) -> Result<Status, Fault>
-    ensures reads { OnlyReads (files_read (Some command.now)) (F.seen shelf.old) (F.seen shelf.new) }
+    ensures leaves { Leaves (Some command.now) (F.seen shelf.old) (F.seen shelf.new) }
     ensures ends { Ends (Some command.now) (F.seen shelf.old) (F.seen shelf.new) (K.seen out.old) (K.seen out.new) result }
 {
     match command {

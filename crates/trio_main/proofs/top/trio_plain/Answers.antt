@@ -1,5 +1,6 @@
 -- What each status tells is read off the one answer.
-use Rattle.trio_main.proofs.Tellings.{tells, none_ends, tells_check, gives_due}
+use Rattle.trio_main.proofs.CheckTold.{tells_check}
+use Rattle.trio_main.proofs.Tellings.{tells, none_ends, gives_due}
 use Rattle.trio_main.proofs.top.trio_plain.Goals as goal
 
 pub returns-clause-tells : goal.returns-clause-tells
