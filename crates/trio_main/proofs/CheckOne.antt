@@ -80,10 +80,10 @@ module _ (one_spec : OneSpecification) (one_fault : OneFault) (none : FaultyIsNo
   pub check_one : (shelf : ShelfView) (s h : List ℕ) (m n : ℕ) (st su : Status) (x y : List ℕ) → shelf.tells ≡ true →
       CheckDue shelf s h m st x → CheckDue shelf s h n su y → (st ≡ su) × (x ≡ y)
   check_one shelf s h m n st su x y told (inl a) (inl b) =
-      let same = check_fault_one shelf s h m n a.named b.named told a.first b.first in
+      let same = check_fault_one shelf s h m n a.named b.named told a.has b.has in
       (a.status_is ∙ ap status_of same ∙ sym b.status_is, a.text_is ∙ ap message same ∙ sym b.text_is)
-  check_one shelf s h m n st su x y told (inl a) (inr b) = absurd (fault_or_verdict shelf s h m a.named b.spec b.v told a.first b.verdict)
-  check_one shelf s h m n st su x y told (inr a) (inl b) = absurd (fault_or_verdict shelf s h n b.named a.spec a.v told b.first a.verdict)
+  check_one shelf s h m n st su x y told (inl a) (inr b) = absurd (fault_or_verdict shelf s h m a.named b.spec b.v told a.has b.verdict)
+  check_one shelf s h m n st su x y told (inr a) (inl b) = absurd (fault_or_verdict shelf s h n b.named a.spec a.v told b.has a.verdict)
   check_one shelf s h m n st su x y told (inr a) (inr b) =
       let same = verdict_one shelf s h a.spec b.spec a.v b.v told a.verdict b.verdict in (
         a.says.status_is ∙ ap verdict_status same.1 ∙ sym b.says.status_is,

@@ -8,8 +8,8 @@ use Rattle.trio_main.specs.declared.status.Status.{Status}
 use Rattle.trio_main.specs.declared.status.Status.TheVariants as status
 use Rattle.trio_main.specs.declared.fault.Fault.{Fault}
 use Rattle.trio_main.specs.declared.fault.Fault.TheVariants as fault
-use Rattle.trio_main.specs.Message.{message}
-use Rattle.trio_main.specs.Check.{CheckFault, CheckDue, IsFaulty, IsVerdict, CheckTells, verdict_status, verdict_text}
+use Rattle.trio_main.specs.Message.{message, SaysFault}
+use Rattle.trio_main.specs.Check.{CheckFault, CheckDue, IsVerdict, CheckTells, verdict_status, verdict_text}
 use Rattle.trio_main.specs.declared.command.Command.{Command}
 use Rattle.trio_main.specs.declared.command.Command.TheVariants as command
 use Rattle.trio_main.specs.Check.{TellsCheck}
@@ -26,7 +26,7 @@ verdict_due_status verdict.True = tt
 verdict_due_status (verdict.False number instant) = tt
 
 pub check_status : (shelf : ShelfView) (s h : List ℕ) (n : ℕ) (st : Status) (text : List ℕ) → CheckDue shelf s h n st text → IsDueStatus st
-check_status shelf s h n st text (inl x) = rw (x.status_is) (of_file_status x.named (check_fault_of_file shelf s h n x.named x.first))
+check_status shelf s h n st text (inl x) = rw (x.status_is) (of_file_status x.named (check_fault_of_file shelf s h n x.named x.has))
 check_status shelf s h n st text (inr x) = rw (x.says.status_is) (verdict_due_status x.v)
 
 -- where a file is not there the message says so
@@ -35,14 +35,14 @@ check_read_text shelf s h n text (inl x) = x.text_is ∙ ap message (read_status
 check_read_text shelf s h n text (inr x) = absurd (verdict_read x.v (sym x.says.status_is))
 
 faulty_tells : (before now : ShelfView) (s h : List ℕ) (old new : SinkView) (n : ℕ) (st : Status) (text : List ℕ) →
-    IsFaulty before s h n st text → now.counts.calls ≤ before.counts.calls + n → Writes old new text → CheckTells before now s h old new st
+    SaysFault (CheckFault before s h n) st text → now.counts.calls ≤ before.counts.calls + n → Writes old new text → CheckTells before now s h old new st
 faulty_tells before now s h old new n st text x fetched wrote =
-    elim (refused_or_read x.named (check_fault_of_file before s h n x.named x.first)) [
+    elim (refused_or_read x.named (check_fault_of_file before s h n x.named x.has)) [
       | inl refused ↦ rw (x.status_is ∙ refused) (record {
         reads = n;
         named = x.named;
         is_refusal = refused;
-        first = x.first;
+        first = x.has;
         fetched = fetched;
         written = rw (← x.text_is) wrote;
       })

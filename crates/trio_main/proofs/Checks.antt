@@ -13,33 +13,19 @@ use Rattle.trio_main.specs.declared.fault.Fault.{Fault}
 use Rattle.trio_main.specs.declared.command.Command.TheVariants as command
 use Rattle.trio_main.specs.Fault.{status_of}
 use Rattle.trio_main.specs.Message.{message}
-use Rattle.trio_main.specs.Load.{ReadsHistory, YieldsSpec, YieldsHistory, HasCause}
+use Rattle.trio_main.specs.Load.{ReadsHistory, YieldsSpec, YieldsHistory, LoadFault}
 use Rattle.trio_main.specs.Check.{CheckFault, CheckDue, Judges, verdict_status}
-use Rattle.trio_main.specs.Answer.{Answers, Computes}
-use Rattle.trio_main.proofs.Jobs.{cause_answers}
-use Rattle.trio_main.proofs.Loaded.{yields_earlier, cause_earlier}
+use Rattle.trio_main.specs.Answer.{Computes}
+use Rattle.trio_main.proofs.Loaded.{yields_earlier}
 
 fault_due : (shelf : ShelfView) (s h : List ℕ) (reads : ℕ) (f : Fault) → CheckFault shelf s h reads f →
     CheckDue shelf s h reads (status_of f) (message f)
-fault_due shelf s h reads f first = inl (record { named = f; first = first; status_is = refl; text_is = refl })
+fault_due shelf s h reads f first = inl (record { named = f; has = first; status_is = refl; text_is = refl })
 
--- the specification has a fault, and no other file was fetched
-pub spec_fault_answers : (before now : ShelfView) (s h : List ℕ) (f : Fault) → OnlyReads 1 before now →
-    HasCause before now (λ g. YieldsSpec before s (Err g)) f → Answers (Some (command.Check s h)) before now (status_of f) (message f)
-spec_fault_answers before now s h f reads cause =
-    cause_answers (Some (command.Check s h)) before now (λ g. YieldsSpec before s (Err g)) 1 f
-    (λ g y. fault_due before s h 1 g (inl (inl (refl, y)))) reads.counts.at_most (omega arith) cause
-
--- the specification has none, and the history has a fault
-pub history_fault_answers : (before middle now : ShelfView) (s h : List ℕ) (spec : Spec) (f : Fault) → OnlyReads 1 before middle →
-    OnlyReads 1 middle now → YieldsSpec before s (Ok spec) → HasCause middle now (λ g. YieldsHistory (world_of spec) middle h (Err g)) f →
-    Answers (Some (command.Check s h)) before now (status_of f) (message f)
-history_fault_answers before middle now s h spec f reads later first cause =
-    cause_answers (Some (command.Check s h)) before now (λ g. YieldsHistory (world_of spec) before h (Err g)) 2 f
-    (λ g y. fault_due before s h 2 g (inl (inr (refl, record { spec = spec; first = first; second = y }))))
-    (omega (arith, reads.counts.at_most, later.counts.at_most)) (omega arith)
-    (cause_earlier before middle now _ _ f 1 reads
-    (λ g y. yields_earlier (ReadsHistory (world_of spec)) text.History before middle h (Err g) 1 reads y) cause)
+-- a fault of the two files is one of `check`
+pub load_fault_due : (shelf : ShelfView) (s h : List ℕ) (reads : ℕ) (f : Fault) → LoadFault shelf s h reads f →
+    CheckDue shelf s h reads (status_of f) (message f)
+load_fault_due shelf s h reads f first = fault_due shelf s h reads f (inl first)
 
 pub verdict_read : (v : Verdict) → verdict_status v ≡ status.ReadFault → ⊥
 verdict_read verdict.True is = cc

@@ -17,7 +17,7 @@ use Rattle.trio_main.specs.declared.command.Command.{Command}
 use Rattle.trio_main.specs.declared.command.Command.TheVariants as command
 use Rattle.trio_main.specs.Row.{row_name, row_of, instant_of}
 use Rattle.trio_main.specs.Fault.{status_of}
-use Rattle.trio_main.specs.Message.{message}
+use Rattle.trio_main.specs.Message.{message, SaysFault}
 use Rattle.trio_main.specs.Text.{text_of}
 use Rattle.trio_main.specs.Load.{LoadFault, IsLoaded}
 
@@ -85,13 +85,6 @@ pub record IsVerdict (shelf : ShelfView) (spec_name history_name : List ℕ) (sp
   pub loaded : IsLoaded shelf spec_name history_name spec (map Some table)
   pub is : v ≡ verdict_of (first_false spec table)
 
--- the answer is the message of the first fault
-pub record IsFaulty (shelf : ShelfView) (spec_name history_name : List ℕ) (reads : ℕ) (s : Status) (text : List ℕ) : Type 0 where
-  pub named : Fault
-  pub first : CheckFault shelf spec_name history_name reads named
-  pub status_is : s ≡ status_of named
-  pub text_is : text ≡ message named
-
 -- the answer is the verdict
 pub record IsJudged (shelf : ShelfView) (spec_name history_name : List ℕ) (reads : ℕ) (s : Status) (text : List ℕ) : Type 0 where
   pub spec : Spec
@@ -100,10 +93,10 @@ pub record IsJudged (shelf : ShelfView) (spec_name history_name : List ℕ) (rea
   pub says : SaysVerdict spec v s text
   pub reads_both : reads ≡ 2
 
--- what `check` answers and writes
+-- what `check` answers and writes: the message of the first fault, or the verdict
 abbrev pub CheckDue : ShelfView → List ℕ → List ℕ → ℕ → Status → List ℕ → Type 0
 CheckDue shelf spec_name history_name reads s text =
-    IsFaulty shelf spec_name history_name reads s text ⊎ IsJudged shelf spec_name history_name reads s text
+    SaysFault (CheckFault shelf spec_name history_name reads) s text ⊎ IsJudged shelf spec_name history_name reads s text
 
 -- status 0: the specification is true in the history
 pub record TellsTrue (before : ShelfView) (spec_name history_name : List ℕ) (old new : SinkView) : Type 0 where

@@ -1,11 +1,13 @@
 -- What is written for each fault, and where the words are no command.
-use Rattle.std.specs.Prelude.{ℕ, List, [], ◌++◌, codes, decimal}
+use Rattle.std.specs.Prelude.{◌≡◌, ℕ, List, [], ◌++◌, codes, decimal}
 use Rattle.trio_reader.specs.declared.fault.Which.{Which}
 use Rattle.trio_reader.specs.declared.fault.Which.TheVariants as which
 use Rattle.trio_reader.specs.declared.fault.SpecFault.{SpecFault}
 use Rattle.trio_reader.specs.declared.fault.SpecFault.TheVariants as spec_fault
 use Rattle.history_check.specs.declared.table.HistFault.{HistFault}
 use Rattle.history_check.specs.declared.table.HistFault.TheVariants as history_fault
+use Rattle.trio_main.specs.declared.status.Status.{Status}
+use Rattle.trio_main.specs.Fault.{status_of}
 use Rattle.trio_main.specs.declared.fault.Text.{Text}
 use Rattle.trio_main.specs.declared.fault.Text.TheVariants as text
 use Rattle.trio_main.specs.declared.fault.Fault.{Fault}
@@ -65,3 +67,10 @@ message (fault.Missing row) = codes "refused history missing " ++ row ++ codes "
 message (fault.Unknown row instant) = numbered (codes "unknown " ++ row ++ codes " ") instant
 message fault.Write = []
 message fault.Memory = codes "fault memory\n"
+
+-- the answer is the message of a fault of this kind
+pub record SaysFault (kind : Fault → Type 0) (s : Status) (text : List ℕ) : Type 0 where
+  pub named : Fault
+  pub has : kind named
+  pub status_is : s ≡ status_of named
+  pub text_is : text ≡ message named
