@@ -1,5 +1,5 @@
 -- From the rows to the answer, and from the answer to the table.
-use Rattle.std.proofs.Common.{◌≡◌, ◌≢◌, ◌⊎◌, inl, inr, ℕ, zero, suc, ◌+◌, ◌<◌, List, [], ◌∷◌, ◌++◌, length, map, get_or, take, ◌≤◌, refl, sym, ap, ◌∙◌, true, false, Bool, Option, None, Some, Result, Ok, Err, IfOk, IfErr, option_map, position, if◌then◌else◌, not, is_none, ◌==◌, arith}
+use Rattle.std.proofs.Common.{◌≡◌, ◌≢◌, ◌⊎◌, inl, inr, ℕ, zero, suc, ◌+◌, ◌<◌, List, [], ◌∷◌, ◌++◌, length, map, get_or, take, ◌≤◌, refl, sym, ap, ◌∙◌, true, false, Bool, Option, None, Some, Result, Ok, Err, option_map, position, if◌then◌else◌, not, is_none, ◌==◌, arith}
 use Rattle.std.proofs.Math.Path.{ap₂}
 use Rattle.std.specs.List.{position_or_len}
 use Rattle.std.proofs.lemmas.Bool.Decides.{nat_tests}
@@ -179,6 +179,6 @@ pub unknown_at : (given : List (Option ℕ)) (i : ℕ) (table : List ℕ) → i 
     take i given ≡ map Some table → position is_none given ≡ Some i
 unknown_at given i table less is front =
     let first : position_or_len is_none given ≡ i =
-        position_or_len_is is_none given i None (omega arith) (λ k before. before_unknown given i k table (omega arith) before front)
-        (λ inside. ap is_none is) in
+    position_or_len_is is_none given i None (omega arith) (λ k before. before_unknown given i k table (omega arith) before front)
+    (λ inside. ap is_none is) in
     grind (arith, nat_tests)
