@@ -8,8 +8,8 @@ use Rattle.std.proofs.lemmas.Grind.{flat_map-append}
 use Rattle.trio_types.specs.declared.spec.Item.{Item}
 use Rattle.trio_types.specs.World.{World}
 use Rattle.history_check.specs.declared.table.Row.{Row}
-use Rattle.history_check.specs.declared.table.HistoryFault.{HistoryFault}
-use Rattle.history_check.specs.declared.table.HistoryFault.TheVariants as fault
+use Rattle.history_check.specs.declared.table.HistFault.{HistFault}
+use Rattle.history_check.specs.declared.table.HistFault.TheVariants as fault
 use Rattle.trio_text.specs.declared.lexeme.Lexeme.{Lexeme}
 use Rattle.std.proofs.Math.Path.{fun_ext, ap₂}
 use Rattle.history_check.specs.Rows.{Line, row_of}
@@ -74,7 +74,7 @@ behind_more world all lines rows number tokens row b is sound =
       same_fault = b.same_fault ∙ ap (λ f. first_of f (lines_fault world (b.seen ++ line ∷ []) lines)) (fault_is world b.seen rows b.are_rows line ∙ sound);
     }
 
-is_fault_along : (a b : Option HistoryFault) (f : HistoryFault) → (a ≡ Some f → b ≡ Some f) → IsFault a f → IsFault b f
+is_fault_along : (a b : Option HistFault) (f : HistFault) → (a ≡ Some f → b ≡ Some f) → IsFault a f → IsFault b f
 is_fault_along a b fault.Memory along is = is
 is_fault_along a b (fault.Lex place) along is = along is
 is_fault_along a b (fault.Syntax line) along is = along is
@@ -84,7 +84,7 @@ is_fault_along a b (fault.Length line) along is = along is
 is_fault_along a b (fault.Value line column) along is = along is
 is_fault_along a b (fault.MissingRow number) along is = along is
 
-pub behind_fault : (world : World) (all lines : List Line) (rows : List Row) (number : ℕ) (tokens : List Lexeme) (f : HistoryFault) →
+pub behind_fault : (world : World) (all lines : List Line) (rows : List Row) (number : ℕ) (tokens : List Lexeme) (f : HistFault) →
     Behind world all (record { number = number; tokens = tokens } ∷ lines) rows →
     IsFault (row_fault world (has_row rows) number (row_of tokens)) f → IsFault (lines_fault world [] all) f
 unfolding lines_fault
@@ -99,7 +99,7 @@ behind_end world all rows b =
     let whole : b.seen ≡ all = sym (b.whole ∙ append-nil b.seen) in
     (subst (λ lines. AreRows lines rows) whole b.are_rows, b.same_fault)
 
-abbrev whole : List (Option ℕ) → Option ℕ → Result (List (Option ℕ)) HistoryFault
+abbrev whole : List (Option ℕ) → Option ℕ → Result (List (Option ℕ)) HistFault
 whole given None = Ok given
 whole given (Some number) = Err (fault.MissingRow number)
 
@@ -126,7 +126,7 @@ rows_more world all rest after lexemes here behind first count row found b is_ru
     is_run.split ∙ ap₂ (λ tokens more. record { number = first.line; tokens = tokens } ∷ more) (sym is_here) (ap₂ lines_by (sym is_after) (sym is_behind)) in
     behind_more world all lines found first.line here row (subst (λ left. Behind world all left found) split b) is sound
 
-pub rows_fault : (world : World) (all : List Line) (rest : List Token) (lexemes here : List Lexeme) (first : Token) (count : ℕ) (found : List Row) (f : HistoryFault) →
+pub rows_fault : (world : World) (all : List Line) (rest : List Token) (lexemes here : List Lexeme) (first : Token) (count : ℕ) (found : List Row) (f : HistFault) →
     Behind world all (lines_by rest lexemes) found → IsRun rest lexemes first count → here ≡ take count lexemes →
     IsFault (row_fault world (has_row found) first.line (row_of here)) f → IsFault (lines_fault world [] all) f
 rows_fault world all rest lexemes here first count found f b is_run is_here is =
@@ -146,11 +146,11 @@ pushed (Ok x) items more before e none = e
 pushed (Err f) items more before e none = cc
 
 -- the exit of a `?`
-pub passed_on : {A : Type 0} (Q : HistoryFault → Type 0) (r : Result A HistoryFault) (f : HistoryFault) → IsErrAnd r (λ g. g ≡ f) → Q f → IfErr r Q
+pub passed_on : {A : Type 0} (Q : HistFault → Type 0) (r : Result A HistFault) (f : HistFault) → IsErrAnd r (λ g. g ≡ f) → Q f → IfErr r Q
 passed_on Q (Ok x) f same q = tt
 passed_on Q (Err g) f same q = subst Q (sym same) q
 
-pub passed_answer : {A : Type 0} (Q : Result A HistoryFault → Type 0) (r : Result A HistoryFault) (f : HistoryFault) → IsErrAnd r (λ g. g ≡ f) → Q (Err f) → Q r
+pub passed_answer : {A : Type 0} (Q : Result A HistFault → Type 0) (r : Result A HistFault) (f : HistFault) → IsErrAnd r (λ g. g ≡ f) → Q (Err f) → Q r
 passed_answer Q (Ok x) f same q = absurd same
 passed_answer Q (Err g) f same q = subst (λ h. Q (Err h)) (sym same) q
 

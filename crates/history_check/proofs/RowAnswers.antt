@@ -1,29 +1,30 @@
 -- From the rows to the answer, and from the answer to the table.
-use Rattle.std.proofs.Common.{◌≡◌, ℕ, zero, suc, ◌+◌, ◌<◌, List, [], ◌∷◌, ◌++◌, length, map, get_or, refl, sym, ap, ◌∙◌, true, false, Bool, Option, None, Some, Result, Ok, Err, IfOk, IfErr, option_map, position, if◌then◌else◌, not, is_none, ◌==◌, arith}
+use Rattle.std.proofs.Common.{◌≡◌, ◌≢◌, ◌⊎◌, inl, inr, ℕ, zero, suc, ◌+◌, ◌<◌, List, [], ◌∷◌, ◌++◌, length, map, get_or, take, ◌≤◌, refl, sym, ap, ◌∙◌, true, false, Bool, Option, None, Some, Result, Ok, Err, option_map, position, if◌then◌else◌, not, is_none, ◌==◌, arith}
 use Rattle.std.proofs.Math.Path.{ap₂}
+use Rattle.std.specs.List.{position_or_len}
+use Rattle.std.proofs.lemmas.Bool.Decides.{nat_tests}
+use Rattle.std.proofs.lemmas.List.Sums.{position_or_len_is}
 use Rattle.trio_text.specs.declared.token.Token.{Token}
 use Rattle.trio_text.specs.declared.lexeme.Lexeme.{Lexeme}
 use Rattle.trio_text.specs.Lexemes.{lexemes_of}
-use Rattle.trio_text.specs.Tokens.{IsTokens}
+use Rattle.trio_text.specs.Tokens.{IsTokens, IsLexFault}
 use Rattle.trio_types.specs.World.{World}
 use Rattle.history_check.specs.declared.table.Row.{Row}
 use Rattle.history_check.specs.declared.table.HistFault.{HistFault}
-use Rattle.history_check.specs.declared.table.HistFault.TheVariants as refusal
-use Rattle.history_check.specs.declared.table.HistoryFault.{HistoryFault}
-use Rattle.history_check.specs.declared.table.HistoryFault.TheVariants as fault
+use Rattle.history_check.specs.declared.table.HistFault.TheVariants as fault
 use Rattle.history_check.specs.Rows.{Line, row_of, lines_of}
 use Rattle.history_check.specs.History.{cell_of, is_item, row_fault, line_fault, lines_fault, first_of, if_sound, if_whole, missing_row, history_of}
-use Rattle.history_check.specs.Answers.{Says, IsHistory, IsTableText}
-use Rattle.history_check.specs.RowReading.{AreRows, IsFault, IsJoined, joined_of, lines_by, SaysOnly, IsUnknown, IsRefusal, refusal_of}
+use Rattle.history_check.specs.Answers.{Says, IsHistory}
+use Rattle.history_check.specs.RowReading.{AreRows, IsFault, IsJoined, joined_of, lines_by}
 use Rattle.history_check.proofs.LineRuns.{lines_by_text}
 use Rattle.history_check.proofs.LineSteps.{history_is}
 
 -- a fault of bytes is told apart from the others
-is_lex : HistoryFault → Bool
+is_lex : HistFault → Bool
 is_lex (fault.Lex place) = true
 is_lex f = false
 
-NoLex : Option HistoryFault → Type 0
+NoLex : Option HistFault → Type 0
 NoLex None = Unit {0}
 NoLex (Some f) = is_lex f ≡ false
 
@@ -44,7 +45,7 @@ no_lex_row world is_taken number (Some row) =
     no_lex_choice (not (is_item world row.name)) (is_taken row.name) (not (length row.entries == world.instants)) number
     (position (λ value. is_none (cell_of value)) row.entries)
 
-no_lex_first : (f g : Option HistoryFault) → NoLex f → NoLex g → NoLex (first_of f g)
+no_lex_first : (f g : Option HistFault) → NoLex f → NoLex g → NoLex (first_of f g)
 no_lex_first None g here there = there
 no_lex_first (Some f) g here there = here
 
@@ -55,7 +56,7 @@ no_lex_lines world earlier (line ∷ lines) =
     no_lex_first (line_fault world earlier line) (lines_fault world (earlier ++ line ∷ []) lines)
     (no_lex_row world _ line.number (row_of line.tokens)) (no_lex_lines world (earlier ++ line ∷ []) lines)
 
-sound_no_lex : (world : World) (lines : List Line) (f : Option HistoryFault) (number : Option ℕ) (place : ℕ) → NoLex f → missing_row world lines ≡ number →
+sound_no_lex : (world : World) (lines : List Line) (f : Option HistFault) (number : Option ℕ) (place : ℕ) → NoLex f → missing_row world lines ≡ number →
     if_sound world lines f ≡ Err (fault.Lex place) → ⊥
 unfolding NoLex is_lex
 sound_no_lex world lines None None place none missing e = let at : if_whole world lines None ≡ Err (fault.Lex place) = ap (if_whole world lines) (sym missing) ∙ e in cc
@@ -68,11 +69,11 @@ history_no_lex : (world : World) (lines : List Line) (place : ℕ) → history_o
 history_no_lex world lines place e = sound_no_lex world lines (lines_fault world [] lines) (missing_row world lines) place (no_lex_lines world [] lines) refl e
 
 -- the text's tokens have this answer, or memory was wanting
-pub Answered : World → List ℕ → List Token → Result (List (Option ℕ)) HistoryFault → Type 0
+pub Answered : World → List ℕ → List Token → Result (List (Option ℕ)) HistFault → Type 0
 Answered world text tokens (Err fault.Memory) = Unit {0}
 Answered world text tokens answer = history_of world (lines_of text tokens) ≡ answer
 
-pub fault_answered : (world : World) (text : List ℕ) (tokens read : List Token) (lexemes : List Lexeme) (f : HistoryFault) →
+pub fault_answered : (world : World) (text : List ℕ) (tokens read : List Token) (lexemes : List Lexeme) (f : HistFault) →
     read ≡ tokens → lexemes ≡ lexemes_of text tokens → IsFault (lines_fault world [] (lines_by read lexemes)) f → Answered world text tokens (Err f)
 unfolding Answered
 fault_answered world text tokens read lexemes f are is = at_lines f
@@ -80,10 +81,10 @@ fault_answered world text tokens read lexemes f are is = at_lines f
     same : lines_by read lexemes ≡ lines_of text tokens
     same = ap₂ lines_by are is ∙ lines_by_text text tokens
 
-    some : (g : HistoryFault) → lines_fault world [] (lines_by read lexemes) ≡ Some g → history_of world (lines_of text tokens) ≡ Err g
+    some : (g : HistFault) → lines_fault world [] (lines_by read lexemes) ≡ Some g → history_of world (lines_of text tokens) ≡ Err g
     some g e = ap (if_sound world (lines_of text tokens)) (ap (lines_fault world []) (sym same) ∙ e)
 
-    at_lines : (g : HistoryFault) → IsFault (lines_fault world [] (lines_by read lexemes)) g → Answered world text tokens (Err g)
+    at_lines : (g : HistFault) → IsFault (lines_fault world [] (lines_by read lexemes)) g → Answered world text tokens (Err g)
     at_lines fault.Memory e = tt
     at_lines (fault.Lex place) e = some (fault.Lex place) e
     at_lines (fault.Syntax line) e = some (fault.Syntax line) e
@@ -93,7 +94,7 @@ fault_answered world text tokens read lexemes f are is = at_lines f
     at_lines (fault.Value line column) e = some (fault.Value line column) e
     at_lines (fault.MissingRow number) e = some (fault.MissingRow number) e
 
-pub joined_answered : (world : World) (text : List ℕ) (tokens read : List Token) (lexemes : List Lexeme) (rows given : List Row) (answer : Result (List (Option ℕ)) HistoryFault) →
+pub joined_answered : (world : World) (text : List ℕ) (tokens read : List Token) (lexemes : List Lexeme) (rows given : List Row) (answer : Result (List (Option ℕ)) HistFault) →
     read ≡ tokens → lexemes ≡ lexemes_of text tokens → given ≡ rows → AreRows (lines_by read lexemes) rows →
     lines_fault world [] (lines_by read lexemes) ≡ None → IsJoined world given answer → Answered world text tokens answer
 unfolding Answered
@@ -102,10 +103,10 @@ joined_answered world text tokens read lexemes rows given answer lexed is joins 
     same : lines_by read lexemes ≡ lines_of text tokens
     same = ap₂ lines_by lexed is ∙ lines_by_text text tokens
 
-    some : (a : Result (List (Option ℕ)) HistoryFault) → joined_of world given ≡ a → history_of world (lines_of text tokens) ≡ a
+    some : (a : Result (List (Option ℕ)) HistFault) → joined_of world given ≡ a → history_of world (lines_of text tokens) ≡ a
     some a e = ap (history_of world) (sym same) ∙ history_is world (lines_by read lexemes) rows are none ∙ ap (joined_of world) (sym joins) ∙ e
 
-    at_rows : (a : Result (List (Option ℕ)) HistoryFault) → IsJoined world given a → Answered world text tokens a
+    at_rows : (a : Result (List (Option ℕ)) HistFault) → IsJoined world given a → Answered world text tokens a
     at_rows (Ok cells) e = some (Ok cells) e
     at_rows (Err fault.Memory) e = tt
     at_rows (Err (fault.Lex place)) e = some (Err (fault.Lex place)) e
@@ -116,7 +117,7 @@ joined_answered world text tokens read lexemes rows given answer lexed is joins 
     at_rows (Err (fault.Value line column)) e = some (Err (fault.Value line column)) e
     at_rows (Err (fault.MissingRow number)) e = some (Err (fault.MissingRow number)) e
 
-pub exact_answer : (world : World) (text : List ℕ) (tokens : List Token) (answer : Result (List (Option ℕ)) HistoryFault) → IsTokens text tokens →
+pub exact_answer : (world : World) (text : List ℕ) (tokens : List Token) (answer : Result (List (Option ℕ)) HistFault) → IsTokens text tokens →
     Answered world text tokens answer → IsHistory world text answer
 unfolding Answered
 exact_answer world text tokens (Ok given) lexed e = record { tokens = tokens; lexed = lexed; answered = e }
@@ -130,64 +131,54 @@ exact_answer world text tokens (Err (fault.Value line column)) lexed e = record 
 exact_answer world text tokens (Err (fault.MissingRow number)) lexed e = record { tokens = tokens; lexed = lexed; answered = e }
 
 pub same_answer : (world : World) (text : List ℕ) (tokens : List Token) → ((others : List Token) → IsTokens text others → others ≡ tokens) →
-    (answer other : Result (List (Option ℕ)) HistoryFault) → history_of world (lines_of text tokens) ≡ answer → Says world text other → other ≡ answer
+    (answer other : Result (List (Option ℕ)) HistFault) → history_of world (lines_of text tokens) ≡ answer → Says world text other → other ≡ answer
 same_answer world text tokens only answer other e says =
     sym says.answered ∙ ap (λ ts. history_of world (lines_of text ts)) (only says.tokens says.lexed) ∙ e
 
-pub only_answer : (world : World) (text : List ℕ) (tokens : List Token) → ((others : List Token) → IsTokens text others → others ≡ tokens) →
-    (answer : Result (List (Option ℕ)) HistoryFault) → Answered world text tokens answer → SaysOnly world text answer
-unfolding Answered
-only_answer world text tokens only (Ok given) e = λ other. same_answer world text tokens only (Ok given) other e
-only_answer world text tokens only (Err fault.Memory) e = tt
-only_answer world text tokens only (Err (fault.Lex place)) e = λ other. same_answer world text tokens only (Err (fault.Lex place)) other e
-only_answer world text tokens only (Err (fault.Syntax line)) e = λ other. same_answer world text tokens only (Err (fault.Syntax line)) other e
-only_answer world text tokens only (Err (fault.UnknownRow line)) e = λ other. same_answer world text tokens only (Err (fault.UnknownRow line)) other e
-only_answer world text tokens only (Err (fault.TwiceRow line)) e = λ other. same_answer world text tokens only (Err (fault.TwiceRow line)) other e
-only_answer world text tokens only (Err (fault.Length line)) e = λ other. same_answer world text tokens only (Err (fault.Length line)) other e
-only_answer world text tokens only (Err (fault.Value line column)) e = λ other. same_answer world text tokens only (Err (fault.Value line column)) other e
-only_answer world text tokens only (Err (fault.MissingRow number)) e = λ other. same_answer world text tokens only (Err (fault.MissingRow number)) other e
+-- an answer of bytes, or of tokens
+told : (world : World) (text : List ℕ) (a : Result (List (Option ℕ)) HistFault) → a ≢ Err fault.Memory → IsHistory world text a →
+    ((place : ℕ) × (a ≡ Err (fault.Lex place)) × IsLexFault text place) ⊎ Says world text a
+told world text (Ok given) some is = inr is
+told world text (Err (fault.Lex place)) some is = inl (place, refl, is)
+told world text (Err (fault.Syntax line)) some is = inr is
+told world text (Err (fault.UnknownRow line)) some is = inr is
+told world text (Err (fault.TwiceRow line)) some is = inr is
+told world text (Err (fault.Length line)) some is = inr is
+told world text (Err (fault.Value line column)) some is = inr is
+told world text (Err (fault.MissingRow number)) some is = inr is
+told world text (Err fault.Memory) some is = absurd (some refl)
 
-pub unknown_at : (given : List (Option ℕ)) (i : ℕ) (table : List ℕ) → i < length given → get_or given i None ≡ None → given ≡ map Some table → ⊥
-unknown_at [] i table less is e = absurd (omega arith)
-unknown_at (x ∷ xs) i [] less is e = cc
-unknown_at (x ∷ xs) zero (t ∷ ts) less is e = let here : x ≡ Some t = cc in cc
-unknown_at (x ∷ xs) (suc i) (t ∷ ts) less is e = unknown_at xs i ts (omega arith) is (let more : xs ≡ map Some ts = cc in more)
+-- what is known of tokens: they are one list, a fault of bytes is one, and there is one of the two at most
+module _ (one_list : (text : List ℕ) (tokens others : List Token) → IsTokens text tokens → IsTokens text others → tokens ≡ others)
+    (one_fault : (text : List ℕ) (place other : ℕ) → IsLexFault text place → IsLexFault text other → place ≡ other)
+    (apart : (text : List ℕ) (place : ℕ) (tokens : List Token) → IsLexFault text place → IsTokens text tokens → ⊥) where
+  one_told : (world : World) (text : List ℕ) (a b : Result (List (Option ℕ)) HistFault) →
+      ((place : ℕ) × (a ≡ Err (fault.Lex place)) × IsLexFault text place) ⊎ Says world text a →
+      ((place : ℕ) × (b ≡ Err (fault.Lex place)) × IsLexFault text place) ⊎ Says world text b → a ≡ b
+  one_told world text a b (inl x) (inl y) = x.1 ∙ ap (λ place. Err (fault.Lex place)) (one_fault text x.0 y.0 x.2 y.2) ∙ sym y.1
+  one_told world text a b (inl x) (inr y) = absurd (apart text x.0 y.tokens x.2 y.lexed)
+  one_told world text a b (inr x) (inl y) = absurd (apart text y.0 x.tokens y.2 x.lexed)
+  one_told world text a b (inr x) (inr y) =
+      sym (same_answer world text x.tokens (λ others lexed. one_list text others x.tokens lexed x.lexed) a b x.answered y)
 
-pub refused_unknown : (world : World) (text : List ℕ) (given : List (Option ℕ)) (r : Result (List ℕ) HistFault) → SaysOnly world text (Ok given) →
-    IfErr r (IsUnknown given) → IfErr r (IsRefusal world text)
-refused_unknown world text given (Ok table) only is = tt
-refused_unknown world text given (Err refusal.Memory) only is = tt
-refused_unknown world text given (Err refusal.Refused) only is = λ table says.
-    let same : Ok (map Some table) ≡ Ok given = only (Ok (map Some table)) says in
-    is table (let e : given ≡ map Some table = cc in e)
+  pub one_history : (world : World) (text : List ℕ) (a b : Result (List (Option ℕ)) HistFault) → a ≢ Err fault.Memory → b ≢ Err fault.Memory →
+      IsHistory world text a → IsHistory world text b → a ≡ b
+  one_history world text a b some other x y = one_told world text a b (told world text a some x) (told world text b other y)
 
-pub refused_fault : (world : World) (text : List ℕ) (f : HistoryFault) → SaysOnly world text (Err f) → IsRefusal world text (refusal_of f)
-refused_fault world text fault.Memory only = tt
-refused_fault world text (fault.Lex place) only = λ table says. let e : Ok (map Some table) ≡ Err (fault.Lex place) = only (Ok (map Some table)) says in cc
-refused_fault world text (fault.Syntax line) only = λ table says. let e : Ok (map Some table) ≡ Err (fault.Syntax line) = only (Ok (map Some table)) says in cc
-refused_fault world text (fault.UnknownRow line) only = λ table says. let e : Ok (map Some table) ≡ Err (fault.UnknownRow line) = only (Ok (map Some table)) says in cc
-refused_fault world text (fault.TwiceRow line) only = λ table says. let e : Ok (map Some table) ≡ Err (fault.TwiceRow line) = only (Ok (map Some table)) says in cc
-refused_fault world text (fault.Length line) only = λ table says. let e : Ok (map Some table) ≡ Err (fault.Length line) = only (Ok (map Some table)) says in cc
-refused_fault world text (fault.Value line column) only = λ table says. let e : Ok (map Some table) ≡ Err (fault.Value line column) = only (Ok (map Some table)) says in cc
-refused_fault world text (fault.MissingRow number) only = λ table says. let e : Ok (map Some table) ≡ Err (fault.MissingRow number) = only (Ok (map Some table)) says in cc
+before_unknown : (given : List (Option ℕ)) (i k : ℕ) (table : List ℕ) → i ≤ length given → k < i → take i given ≡ map Some table →
+    is_none (get_or given k None) ≡ false
+before_unknown [] i k table within less front = absurd (omega arith)
+before_unknown (x ∷ xs) zero k table within less front = absurd (omega arith)
+before_unknown (x ∷ xs) (suc i) k [] within less front = cc
+before_unknown (x ∷ xs) (suc i) zero (t ∷ ts) within less front = let here : x ≡ Some t = cc in ap is_none here
+before_unknown (x ∷ xs) (suc i) (suc k) (t ∷ ts) within less front =
+    before_unknown xs i k ts (omega arith) (omega arith) (let more : take i xs ≡ map Some ts = cc in more)
 
-pub known_fits : (Q : List ℕ → Type 0) (given : List (Option ℕ)) (r : Result (List ℕ) HistFault) → IfOk r (λ table. given ≡ map Some table) →
-    ((table : List ℕ) → given ≡ map Some table → Q table) → IfOk r Q
-known_fits Q given (Ok table) is fits = fits table is
-known_fits Q given (Err f) is fits = tt
-
-all_some : (xs ys : List ℕ) → map Some xs ≡ map Some ys → xs ≡ ys
-all_some [] [] e = refl
-all_some [] (y ∷ ys) e = cc
-all_some (x ∷ xs) [] e = cc
-all_some (x ∷ xs) (y ∷ ys) e =
-    let here : x ≡ y = cc in
-    let more : map Some xs ≡ map Some ys = cc in
-    ap₂ ◌∷◌ here (all_some xs ys more)
-
-pub one_history : ((text : List ℕ) (tokens others : List Token) → IsTokens text tokens → IsTokens text others → tokens ≡ others) →
-    (world : World) (text table other : List ℕ) → IsTableText world text table → IsTableText world text other → table ≡ other
-one_history one world text table other says others =
-    let same : Ok (map Some table) ≡ Ok (map Some other) =
-    same_answer world text others.tokens (λ tokens lexed. one text tokens others.tokens lexed others.lexed) (Ok (map Some other)) (Ok (map Some table)) others.answered says in
-    all_some table other (let e : map Some table ≡ map Some other = cc in e)
+-- behind values that are known, the first that is not
+pub unknown_at : (given : List (Option ℕ)) (i : ℕ) (table : List ℕ) → i < length given → get_or given i None ≡ None →
+    take i given ≡ map Some table → position is_none given ≡ Some i
+unknown_at given i table less is front =
+    let first : position_or_len is_none given ≡ i =
+    position_or_len_is is_none given i None (omega arith) (λ k before. before_unknown given i k table (omega arith) before front)
+    (λ inside. ap is_none is) in
+    grind (arith, nat_tests)

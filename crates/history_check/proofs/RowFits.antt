@@ -1,5 +1,5 @@
 -- A history in which every value is known is a table of a well formed specification.
-use Rattle.std.proofs.Common.{◌≡◌, ℕ, zero, suc, ◌+◌, ◌<◌, ◌≤◌, List, [], ◌∷◌, ◌++◌, length, map, refl, sym, ap, ◌∙◌, true, false, Bool, not, cond, ◌==◌, ◌&&◌, ◌||◌, nat_lt, Option, None, Some, Ok, slice_get, position, find, zip, flat_map, if◌then◌else◌, option_map, option_and_then, is_none, arith}
+use Rattle.std.proofs.Common.{◌≡◌, ℕ, zero, suc, ◌+◌, ◌<◌, ◌≤◌, List, [], ◌∷◌, ◌++◌, length, map, refl, sym, ap, ◌∙◌, true, false, Bool, not, cond, ◌==◌, ◌&&◌, ◌||◌, nat_lt, Option, None, Some, Result, Ok, Err, IfOk, slice_get, position, find, zip, flat_map, if◌then◌else◌, option_map, option_and_then, is_none, arith}
 use Rattle.std.proofs.Math.Path.{ap₂}
 use Rattle.std.specs.List.{list_all, list_any, enumerate_from, position_from}
 use Rattle.std.proofs.lemmas.List.{length-map, length-append, append-nil}
@@ -21,11 +21,11 @@ use Rattle.history_check.proofs.LineRuns.{eq_true, eq_from}
 use Rattle.history_check.specs.declared.table.Entry.{Entry}
 use Rattle.history_check.specs.declared.table.Entry.TheVariants as entry
 use Rattle.history_check.specs.declared.table.Row.{Row}
-use Rattle.history_check.specs.declared.table.HistoryFault.{HistoryFault}
-use Rattle.history_check.specs.declared.table.HistoryFault.TheVariants as fault
+use Rattle.history_check.specs.declared.table.HistFault.{HistFault}
+use Rattle.history_check.specs.declared.table.HistFault.TheVariants as fault
 use Rattle.history_check.specs.Rows.{Line, row_of, lines_of}
 use Rattle.history_check.specs.History.{cell_of, is_item, is_row, row_fault, line_fault, lines_fault, first_of, cells_of_row, cells_of_line, missing_row, given_of, if_sound, if_whole}
-use Rattle.history_check.specs.Answers.{IsTableText}
+use Rattle.history_check.specs.Answers.{Says, IsHistory}
 
 -- a value that is known is an index in bool
 is_below : Option ℕ → Bool
@@ -76,7 +76,7 @@ row_sized world is_taken number (Some row) sound =
     (at_row (not (is_item world row.name)) (is_taken row.name) (length row.entries == world.instants)
     (option_map (λ column. fault.Value number (column + 1)) (position (λ v. is_none (cell_of v)) row.entries)) sound)
   where
-    at_row : (unknown twice whole : Bool) (outside : Option HistoryFault) →
+    at_row : (unknown twice whole : Bool) (outside : Option HistFault) →
         (if unknown then Some (fault.UnknownRow number) else (if twice then Some (fault.TwiceRow number) else (if not whole then Some (fault.Length number) else outside))) ≡ None →
         whole ≡ true
     at_row true twice whole outside e = cc
@@ -84,7 +84,7 @@ row_sized world is_taken number (Some row) sound =
     at_row false false true outside e = refl
     at_row false false false outside e = cc
 
-first_none : (f g : Option HistoryFault) → first_of f g ≡ None → (f ≡ None) × (g ≡ None)
+first_none : (f g : Option HistFault) → first_of f g ≡ None → (f ≡ None) × (g ≡ None)
 first_none None g e = (refl, e)
 first_none (Some f) g e = cc
 
@@ -202,7 +202,7 @@ record IsGiven (world : World) (lines : List Line) (given : List (Option ℕ)) :
   none : missing_row world lines ≡ None
   same : given_of world lines ≡ given
 
-is_given : (world : World) (lines : List Line) (given : List (Option ℕ)) (f : Option HistoryFault) (number : Option ℕ) →
+is_given : (world : World) (lines : List Line) (given : List (Option ℕ)) (f : Option HistFault) (number : Option ℕ) →
     lines_fault world [] lines ≡ f → missing_row world lines ≡ number → if_sound world lines f ≡ Ok given → IsGiven world lines given
 is_given world lines given None None sound none e =
     let at : Ok (given_of world lines) ≡ Ok given = ap (if_whole world lines) (sym none) ∙ e in
@@ -224,10 +224,15 @@ given_fits world lines table alone fits given = record {
 }
 
 -- a history text in which every value is known is a table of its specification
-pub table_fits : (spec : Spec) (text table : List ℕ) → IsTableText (world_of spec) text table → IsTable (world_of spec) table
+pub table_fits : (spec : Spec) (text table : List ℕ) → Says (world_of spec) text (Ok (map Some table)) → IsTable (world_of spec) table
 table_fits spec text table says =
     let world = world_of spec in
     let lines = lines_of text says.tokens in
     let items = (both _ _ (both _ _ (both _ _ spec.well_formed).1).1) in
     given_fits world lines table items.0 (both _ _ items.1).0
     (is_given world lines (map Some table) (lines_fault world [] lines) (missing_row world lines) refl refl says.answered)
+
+pub answer_fits : (spec : Spec) (text : List ℕ) (r : Result (List (Option ℕ)) HistFault) → IsHistory (world_of spec) text r →
+    IfOk r (λ given. (table : List ℕ) → given ≡ map Some table → IsTable (world_of spec) table)
+answer_fits spec text (Ok given) is = λ table same. table_fits spec text table (rw same at is)
+answer_fits spec text (Err f) is = tt

@@ -7,8 +7,8 @@ use Rattle.trio_types.specs.World.{World}
 use Rattle.history_check.specs.declared.table.Entry.{Entry}
 use Rattle.history_check.specs.declared.table.Entry.TheVariants as entry
 use Rattle.history_check.specs.declared.table.Row.{Row}
-use Rattle.history_check.specs.declared.table.HistoryFault.{HistoryFault}
-use Rattle.history_check.specs.declared.table.HistoryFault.TheVariants as fault
+use Rattle.history_check.specs.declared.table.HistFault.{HistFault}
+use Rattle.history_check.specs.declared.table.HistFault.TheVariants as fault
 use Rattle.history_check.specs.Rows.{Line, row_of}
 
 -- the index in bool of a value that is known: its number, whatever its sign or zeros; none where it is outside
@@ -37,7 +37,7 @@ abbrev pub is_item : World → List ℕ → Bool
 is_item world name = list_any (λ item. bytes_eq item.name name) world.items
 
 -- the first fault of a row, where earlier lines have rows of these names
-abbrev pub row_fault : World → (List ℕ → Bool) → ℕ → Option Row → Option HistoryFault
+abbrev pub row_fault : World → (List ℕ → Bool) → ℕ → Option Row → Option HistFault
 row_fault world is_taken number None = Some (fault.Syntax number)
 row_fault world is_taken number (Some row) =
     if not (is_item world row.name) then Some (fault.UnknownRow number)
@@ -45,15 +45,15 @@ row_fault world is_taken number (Some row) =
     else (if not (length row.entries == world.instants) then Some (fault.Length number)
     else option_map (λ column. fault.Value number (column + 1)) (position (λ value. is_none (cell_of value)) row.entries)))
 
-abbrev pub line_fault : World → List Line → Line → Option HistoryFault
+abbrev pub line_fault : World → List Line → Line → Option HistFault
 line_fault world earlier line = row_fault world (λ name. list_any (is_row name) earlier) line.number (row_of line.tokens)
 
-abbrev pub first_of : Option HistoryFault → Option HistoryFault → Option HistoryFault
+abbrev pub first_of : Option HistFault → Option HistFault → Option HistFault
 first_of None later = later
 first_of (Some f) later = Some f
 
 -- the fault of the first faulty line
-unfoldable pub lines_fault : World → List Line → List Line → Option HistoryFault
+unfoldable pub lines_fault : World → List Line → List Line → Option HistFault
 lines_fault world earlier [] = None
 lines_fault world earlier (line ∷ lines) = first_of (line_fault world earlier line) (lines_fault world (earlier ++ line ∷ []) lines)
 
@@ -73,14 +73,14 @@ cells_of_line (Some line) = cells_of_row (row_of line.tokens)
 abbrev pub given_of : World → List Line → List (Option ℕ)
 given_of world lines = flat_map (λ item. cells_of_line (find (is_row item.name) lines)) world.items
 
-abbrev pub if_whole : World → List Line → Option ℕ → Result (List (Option ℕ)) HistoryFault
+abbrev pub if_whole : World → List Line → Option ℕ → Result (List (Option ℕ)) HistFault
 if_whole world lines None = Ok (given_of world lines)
 if_whole world lines (Some number) = Err (fault.MissingRow number)
 
-abbrev pub if_sound : World → List Line → Option HistoryFault → Result (List (Option ℕ)) HistoryFault
+abbrev pub if_sound : World → List Line → Option HistFault → Result (List (Option ℕ)) HistFault
 if_sound world lines None = if_whole world lines (missing_row world lines)
 if_sound world lines (Some f) = Err f
 
 -- the given history of these lines, or the first fault
-abbrev pub history_of : World → List Line → Result (List (Option ℕ)) HistoryFault
+abbrev pub history_of : World → List Line → Result (List (Option ℕ)) HistFault
 history_of world lines = if_sound world lines (lines_fault world [] lines)

@@ -12,13 +12,10 @@ use Rattle.trio_types.specs.World.{World}
 use Rattle.history_check.specs.declared.table.Entry.{Entry}
 use Rattle.history_check.specs.declared.table.Entry.TheVariants as entry
 use Rattle.history_check.specs.declared.table.Row.{Row}
-use Rattle.history_check.specs.declared.table.HistoryFault.{HistoryFault}
-use Rattle.history_check.specs.declared.table.HistoryFault.TheVariants as fault
+use Rattle.history_check.specs.declared.table.HistFault.{HistFault}
+use Rattle.history_check.specs.declared.table.HistFault.TheVariants as fault
 use Rattle.history_check.specs.Rows.{Line, row_of}
 use Rattle.history_check.specs.History.{cells_of_row}
-use Rattle.history_check.specs.declared.table.HistFault.{HistFault}
-use Rattle.history_check.specs.declared.table.HistFault.TheVariants as refusal
-use Rattle.history_check.specs.Answers.{Says, IsTableText}
 
 -- the value that this one token is
 abbrev pub single_of : Lexeme → Option Entry
@@ -63,39 +60,19 @@ abbrev pub cells_of_item : List Row → Item → List (Option ℕ)
 cells_of_item rows item = cells_of_row (find (λ row. bytes_eq row.name item.name) rows)
 
 -- this is the fault found, or memory was wanting
-abbrev pub IsFault : Option HistoryFault → HistoryFault → Type 0
+abbrev pub IsFault : Option HistFault → HistFault → Type 0
 IsFault found fault.Memory = Unit {0}
 IsFault found f = found ≡ Some f
 
--- the text has this answer at most, or memory was wanting
-abbrev pub SaysOnly : World → List ℕ → Result (List (Option ℕ)) HistoryFault → Type 0
-SaysOnly world text (Err fault.Memory) = Unit {0}
-SaysOnly world text answer = (other : Result (List (Option ℕ)) HistoryFault) → Says world text other → other ≡ answer
-
-abbrev if_whole : World → List Row → Option ℕ → Result (List (Option ℕ)) HistoryFault
+abbrev if_whole : World → List Row → Option ℕ → Result (List (Option ℕ)) HistFault
 if_whole world rows None = Ok (flat_map (cells_of_item rows) world.items)
 if_whole world rows (Some number) = Err (fault.MissingRow number)
 
 -- the given history of sound rows, or the first item without one
-abbrev pub joined_of : World → List Row → Result (List (Option ℕ)) HistoryFault
+abbrev pub joined_of : World → List Row → Result (List (Option ℕ)) HistFault
 joined_of world rows = if_whole world rows (position (λ item. not (has_row rows item.name)) world.items)
 
 -- this is the answer for these rows, or memory was wanting
-abbrev pub IsJoined : World → List Row → Result (List (Option ℕ)) HistoryFault → Type 0
+abbrev pub IsJoined : World → List Row → Result (List (Option ℕ)) HistFault → Type 0
 IsJoined world rows (Err fault.Memory) = Unit {0}
 IsJoined world rows answer = joined_of world rows ≡ answer
-
--- one of the values is unknown, or memory was wanting
-abbrev pub IsUnknown : List (Option ℕ) → HistFault → Type 0
-IsUnknown given refusal.Refused = (table : List ℕ) → given ≡ map Some table → ⊥
-IsUnknown given refusal.Memory = Unit {0}
-
--- how a reader of tables answers these faults: each is the one refusal
-abbrev pub refusal_of : HistoryFault → HistFault
-refusal_of fault.Memory = refusal.Memory
-refusal_of f = refusal.Refused
-
--- the text is no history in which every value is known, or memory was wanting
-abbrev pub IsRefusal : World → List ℕ → HistFault → Type 0
-IsRefusal world text refusal.Refused = (table : List ℕ) → IsTableText world text table → ⊥
-IsRefusal world text refusal.Memory = Unit {0}

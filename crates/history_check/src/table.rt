@@ -1,20 +1,18 @@
 //! The text of a history, and the table that it stands for.
 
-ghost use Rattle.std.specs.Prelude.{◌≡◌, ℕ, List, map, IfOk, IfErr};
-ghost use Rattle.trio_types.specs.World.{World};
+ghost use Rattle.std.specs.Prelude.{◌≡◌, ℕ, List, map, Some, IfOk};
 ghost use Rattle.trio_types.specs.Cells.{IsTable};
 ghost use Rattle.trio_types.specs.Verdict.{world_of};
-ghost use Rattle.history_check.specs.Answers.{IsHistory, IsTableText};
-ghost use Rattle.history_check.specs.RowReading.{SaysOnly, IsRefusal, IsJoined, IsUnknown, refusal_of};
+ghost use Rattle.history_check.specs.Answers.{IsHistory, OneHistory, IsWhole};
+ghost use Rattle.history_check.specs.RowReading.{IsJoined};
 
 mod gather;
 mod lines;
 mod parse;
 
-use std::alloc::Global;
-use thiserror::Error;
+use std::alloc::{AllocError, Global};
 use trio_base::{List, Name};
-use trio_text::{LexFault, text_is_one_list_of_tokens};
+use trio_text::{LexFault, text_has_one_fault, text_is_one_list_of_tokens};
 use trio_types::Spec;
 
 /// A value index for each cell, in the order of the cells' numbers.
@@ -23,20 +21,9 @@ pub type Table = List<u16>;
 /// A table's values as far as they are known.
 pub type Given = List<Option<u16>>;
 
-/// Why a text is no complete history.
-#[derive(Clone, Copy, Debug, PartialEq, Eq, Error)]
-pub enum HistFault {
-    /// The text has no reading, or a value in it is unknown.
-    #[error("the text is no complete history")]
-    Refused,
-    /// Want of memory.
-    #[error("out of memory")]
-    Memory,
-}
-
 /// Why a text is no history, with the place. Lines and columns count from 1.
 #[derive(Clone, Copy, Debug, PartialEq, Eq)]
-pub enum HistoryFault {
+pub enum HistFault {
     /// The first byte, from 0, that begins no token.
     Lex(u64),
     /// The line is no row.
@@ -74,79 +61,62 @@ pub struct Row {
     pub entries: List<Entry>,
 }
 
-/// The table of a history text in which every value is known.
-pub fn read_history(alloc: Global, spec: &Spec, text: &[u8]) -> Result<Table, HistFault>
-    ensures ok { IfOk result (IsTableText (world_of spec.now) text.now) }
-    ensures fits { IfOk result (IsTable (world_of spec.now)) }
-    ensures refused { IfErr result (IsRefusal (world_of spec.now) text.now) }
-{
-    match read_given(alloc, spec, text) {
-        Ok(given) => known(alloc, given.as_slice()),
-        Err(fault) => Err(refusal(fault)),
-    }
-}
-
-/// How a fault is answered where its place is not asked.
-fn refusal(fault: HistoryFault) -> HistFault
-    ensures { result ≡ refusal_of fault }
-{
-    match fault {
-        HistoryFault::Memory => HistFault::Memory,
-        _ => HistFault::Refused,
-    }
-}
-
-/// A text is at most one history in which every value is known.
-pub fn text_is_one_history()
-    ensures { (world : World) (text table other : List ℕ) → IsTableText world text table → IsTableText world text other → table ≡ other }
-{
-    text_is_one_list_of_tokens();
-}
-
-/// The values, where each is known.
-fn known(alloc: Global, given: &[Option<u16>]) -> Result<Table, HistFault>
-    ensures ok { IfOk result (λ table. given.now ≡ map Some table) }
-    ensures refused { IfErr result (IsUnknown given.now) }
-{
-    let mut table = Vec::new(alloc);
-    for value in given {
-        let Some(index) = *value else {
-            return Err(HistFault::Refused);
-        };
-        if table.push(index).is_err() {
-            return Err(HistFault::Memory);
-        }
-    }
-    Ok(List::from_vec(table))
-}
-
 /// The given history that a text is, or its first fault.
-pub(crate) fn read_given(alloc: Global, spec: &Spec, text: &[u8]) -> Result<Given, HistoryFault>
+pub fn read_history(alloc: Global, spec: &Spec, text: &[u8]) -> Result<Given, HistFault>
     ensures exact { IsHistory (world_of spec.now) text.now result }
-    ensures only { SaysOnly (world_of spec.now) text.now result }
+    ensures fits { IfOk result (λ given. (table : List ℕ) → given ≡ map Some table → IsTable (world_of spec.now) table) }
 {
     let tokens = match trio_text::tokens(alloc, text) {
         Ok(tokens) => tokens,
-        Err(LexFault::Byte(place)) => return Err(HistoryFault::Lex(place)),
-        Err(LexFault::Memory) => return Err(HistoryFault::Memory),
+        Err(LexFault::Byte(place)) => return Err(HistFault::Lex(place)),
+        Err(LexFault::Memory) => return Err(HistFault::Memory),
     };
     let Ok(lexemes) = trio_text::lexemes(alloc, text, &tokens) else {
-        return Err(HistoryFault::Memory);
+        return Err(HistFault::Memory);
     };
     let rows = lines::rows(alloc, spec, tokens.as_slice(), lexemes.as_slice())?;
     joined(alloc, spec, rows.as_slice())
 }
 
 /// The given history of these rows, or the first item without one.
-fn joined(alloc: Global, spec: &Spec, rows: &[Row]) -> Result<Given, HistoryFault>
+fn joined(alloc: Global, spec: &Spec, rows: &[Row]) -> Result<Given, HistFault>
     ensures { IsJoined (world_of spec.now) rows.now result }
 {
     let items = spec.items.as_slice();
     if let Some(number) = gather::missing(items, rows) {
-        return Err(HistoryFault::MissingRow(number as u32));
+        return Err(HistFault::MissingRow(number as u32));
     }
     let Ok(given) = gather::gathered(alloc, items, rows) else {
-        return Err(HistoryFault::Memory);
+        return Err(HistFault::Memory);
     };
     Ok(given)
+}
+
+/// A text has one answer, but for want of memory.
+pub fn text_has_one_history()
+    ensures { OneHistory }
+{
+    text_is_one_list_of_tokens();
+    text_has_one_fault();
+}
+
+/// The values of a given history, where each is known, or else the number of the first cell that is not.
+#[derive(Debug, Drop)]
+pub enum Values {
+    Known(Table),
+    Unknown(usize),
+}
+
+/// Whether every value is known. Only want of memory refuses it.
+pub fn whole(alloc: Global, given: &[Option<u16>]) -> Result<Values, AllocError>
+    ensures { IfOk result (IsWhole given.now) }
+{
+    let mut table = Vec::new(alloc);
+    for (cell, value) in given.iter().enumerate() {
+        match *value {
+            Some(index) => table.push(index)?,
+            None => return Ok(Values::Unknown(cell)),
+        }
+    }
+    Ok(Values::Known(List::from_vec(table)))
 }

@@ -1,4 +1,9 @@
-pub mod Verdicts
+pub mod CheckOne
+pub mod CheckTold
+pub mod Checks
+pub mod FileFaults
 pub mod Jobs
+pub mod Loaded
+pub mod Pieces
 pub mod Tellings
-pub mod Determined
+pub mod Yielded

@@ -2,7 +2,7 @@
 use Rattle.std.proofs.Common.{◌≡◌, ℕ, Bool, true, false, List, [], ◌∷◌, ◌++◌, Option, None, Some, refl}
 use Rattle.std.specs.Option.{option_map}
 use Rattle.trio_reader.specs.Places.{earlier, least, unless}
-use Rattle.trio_reader.specs.declared.fault.TextFault.{TextFault}
+use Rattle.trio_reader.specs.declared.fault.SpecFault.{SpecFault}
 use Rattle.trio_reader.specs.Reading.{or_later}
 
 pub append_empty : {A : Type 0} (xs ys : List A) → xs ++ ys ≡ [] → (xs ≡ []) × (ys ≡ [])
@@ -25,6 +25,6 @@ pub none_mapped : {A B : Type 0} (f : A → B) (r : Option A) → option_map f r
 none_mapped f None is = refl
 none_mapped f (Some x) is = cc
 
-pub no_fault : (first later : Option TextFault) → or_later first later ≡ None → (first ≡ None) × (later ≡ None)
+pub no_fault : (first later : Option SpecFault) → or_later first later ≡ None → (first ≡ None) × (later ≡ None)
 no_fault None later is = (refl, is)
 no_fault (Some f) later is = cc

@@ -15,8 +15,8 @@ use Rattle.trio_syntax.proofs.Unique.{one_tree}
 use Rattle.trio_syntax.proofs.Faults.{fault_no_tree, one_fault as one_syntax_fault}
 use Rattle.trio_syntax.proofs.Parts.{parts_read}
 use Rattle.trio_syntax.proofs.Names.{names_read}
-use Rattle.trio_reader.specs.declared.fault.TextFault.{TextFault}
-use Rattle.trio_reader.specs.declared.fault.TextFault.TheVariants as fault
+use Rattle.trio_reader.specs.declared.fault.SpecFault.{SpecFault}
+use Rattle.trio_reader.specs.declared.fault.SpecFault.TheVariants as fault
 use Rattle.trio_reader.specs.Erasure.{IsSpecOf}
 use Rattle.trio_reader.specs.Reading.{tree_fault, IsShallow, IsTreeText, IsSpecText, HasFault}
 use Rattle.trio_reader.specs.Sound.{IsSound}
@@ -51,13 +51,13 @@ one_specification text a b x y =
     }
 
 -- what a fault is, by its phase
-data Told (text : List ℕ) (f : TextFault) : Type 0 where
+data Told (text : List ℕ) (f : SpecFault) : Type 0 where
   lex : (place : ℕ) → f ≡ fault.Lex place → IsLexFault text place → Told text f
   deep : (place : ℕ) (tokens : List Token) → f ≡ fault.Deep place → IsTokens text tokens → first_deep (lexemes_of text tokens) ≡ Some place → Told text f
   syntax_ : (place : ℕ) (tokens : List Token) → f ≡ fault.Syntax place → IsShallow text tokens → IsSyntaxFault IsSpec (lexemes_of text tokens) place → Told text f
   tree_ : (tree : SpecTree) → IsTreeText text tree → tree_fault tree ≡ Some f → Told text f
 
-told : (text : List ℕ) (f : TextFault) → f ≢ fault.Memory → HasFault text f → Told text f
+told : (text : List ℕ) (f : SpecFault) → f ≢ fault.Memory → HasFault text f → Told text f
 told text (fault.Lex place) some has = lex place refl has
 told text (fault.Deep place) some has = deep place has.0 refl has.1 has.2
 told text (fault.Syntax place) some has = syntax_ place has.0 refl has.1 has.2
@@ -80,20 +80,20 @@ syntax_tree text place tokens tree s is read =
     (subst (λ ls. IsSpec ls tree) (same_tokens text read.tokens tokens read.shallow.lexed s.lexed) read.tree_read)
 
 -- a fault before the phases over trees leaves no tree
-no_tree : (text : List ℕ) (f : TextFault) (tree : SpecTree) → Told text f → IsTreeText text tree → tree_fault tree ≡ Some f
+no_tree : (text : List ℕ) (f : SpecFault) (tree : SpecTree) → Told text f → IsTreeText text tree → tree_fault tree ≡ Some f
 no_tree text f tree (lex place is has) read = absurd (fault_or_tokens text place read.tokens has read.shallow.lexed)
 no_tree text f tree (deep place tokens is lexed has) read = absurd (deep_shallow text place tokens read.tokens lexed has read.shallow)
 no_tree text f tree (syntax_ place tokens is s has) read = absurd (syntax_tree text place tokens tree s has read)
 no_tree text f tree (tree_ other reading has) read = ap tree_fault (one_tree_text text tree other read reading) ∙ has
 
-pub no_specification : (text : List ℕ) (f : TextFault) (spec : Spec) → f ≢ fault.Memory → HasFault text f → IsSpecText text spec → ⊥
+pub no_specification : (text : List ℕ) (f : SpecFault) (spec : Spec) → f ≢ fault.Memory → HasFault text f → IsSpecText text spec → ⊥
 no_specification text f spec some has x =
     none-some f (sym x.sound ∙ no_tree text f x.tree (told text f some has) x.read)
 
 some_same : {A : Type 0} (a b : A) → Some a ≡ Some b → a ≡ b
 some_same a b is = cc
 
-one : (text : List ℕ) (f g : TextFault) → Told text f → Told text g → f ≡ g
+one : (text : List ℕ) (f g : SpecFault) → Told text f → Told text g → f ≡ g
 one text f g (lex j is has) (lex k js hat) = is ∙ ap fault.Lex (one_fault text j k has hat) ∙ sym js
 one text f g (lex j is has) (deep k tokens js lexed hat) = absurd (fault_or_tokens text j tokens has lexed)
 one text f g (lex j is has) (syntax_ k tokens js s hat) = absurd (fault_or_tokens text j tokens has s.lexed)
@@ -109,5 +109,5 @@ one text f g (syntax_ j a is s has) (syntax_ k b js r hat) =
 one text f g (tree_ tree read has) later = some_same f g (sym has ∙ no_tree text g tree later read)
 one text f g first (tree_ tree read has) = some_same f g (sym (no_tree text f tree first read) ∙ has)
 
-pub one_text_fault : (text : List ℕ) (f g : TextFault) → f ≢ fault.Memory → g ≢ fault.Memory → HasFault text f → HasFault text g → f ≡ g
+pub one_text_fault : (text : List ℕ) (f g : SpecFault) → f ≢ fault.Memory → g ≢ fault.Memory → HasFault text f → HasFault text g → f ≡ g
 one_text_fault text f g some more has hat = one text f g (told text f some has) (told text g more hat)

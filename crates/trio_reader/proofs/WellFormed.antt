@@ -15,7 +15,7 @@ use Rattle.trio_syntax.specs.declared.tree.ItemTree.{ItemTree}
 use Rattle.trio_syntax.specs.declared.tree.AxiomTree.{AxiomTree}
 use Rattle.trio_syntax.specs.declared.tree.SpecTree.{SpecTree}
 use Rattle.trio_syntax.specs.Shape.{has_parts}
-use Rattle.trio_reader.specs.declared.fault.TextFault.TheVariants as fault
+use Rattle.trio_reader.specs.declared.fault.SpecFault.TheVariants as fault
 use Rattle.trio_reader.specs.declared.fault.Which.{Which}
 use Rattle.trio_reader.specs.declared.fault.Which.TheVariants as which
 use Rattle.trio_reader.specs.Places.{least, unless, numbers_in}

@@ -1,8 +1,8 @@
 -- What texts and specifications have to do with each other.
 use Rattle.std.specs.Prelude.{◌≡◌, ◌≢◌, ℕ, List}
 use Rattle.trio_types.specs.declared.spec.Spec.{Spec}
-use Rattle.trio_reader.specs.declared.fault.TextFault.{TextFault}
-use Rattle.trio_reader.specs.declared.fault.TextFault.TheVariants.{Memory}
+use Rattle.trio_reader.specs.declared.fault.SpecFault.{SpecFault}
+use Rattle.trio_reader.specs.declared.fault.SpecFault.TheVariants.{Memory}
 use Rattle.trio_reader.specs.Reading.{IsSpecText, HasFault}
 
 -- they agree in all that they say
@@ -19,8 +19,8 @@ OneSpecification = (text : List ℕ) (a b : Spec) → IsSpecText text a → IsSp
 
 -- a text has one first fault at most
 abbrev pub OneFault : Type 0
-OneFault = (text : List ℕ) (f g : TextFault) → f ≢ Memory → g ≢ Memory → HasFault text f → HasFault text g → f ≡ g
+OneFault = (text : List ℕ) (f g : SpecFault) → f ≢ Memory → g ≢ Memory → HasFault text f → HasFault text g → f ≡ g
 
 -- a text with a fault is no specification
 abbrev pub FaultyIsNone : Type 0
-FaultyIsNone = (text : List ℕ) (f : TextFault) (spec : Spec) → f ≢ Memory → HasFault text f → IsSpecText text spec → ⊥
+FaultyIsNone = (text : List ℕ) (f : SpecFault) (spec : Spec) → f ≢ Memory → HasFault text f → IsSpecText text spec → ⊥

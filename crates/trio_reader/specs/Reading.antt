@@ -9,8 +9,8 @@ use Rattle.trio_syntax.specs.declared.tree.SpecTree.{SpecTree}
 use Rattle.trio_syntax.specs.Reading.{IsSyntaxFault}
 use Rattle.trio_syntax.specs.Grammar.{IsSpec}
 use Rattle.trio_syntax.specs.Depth.{first_deep}
-use Rattle.trio_reader.specs.declared.fault.TextFault.{TextFault}
-use Rattle.trio_reader.specs.declared.fault.TextFault.TheVariants as fault
+use Rattle.trio_reader.specs.declared.fault.SpecFault.{SpecFault}
+use Rattle.trio_reader.specs.declared.fault.SpecFault.TheVariants as fault
 use Rattle.trio_reader.specs.Places.{least}
 use Rattle.trio_reader.specs.Scope.{unknown_places, repeated_places}
 use Rattle.trio_reader.specs.Kinds.{kind_places}
@@ -18,12 +18,12 @@ use Rattle.trio_reader.specs.Ranges.{range_places, count_fault}
 use Rattle.trio_reader.specs.Erasure.{IsSpecOf}
 
 -- the first fault of two phases
-abbrev pub or_later : Option TextFault → Option TextFault → Option TextFault
+abbrev pub or_later : Option SpecFault → Option SpecFault → Option SpecFault
 or_later None later = later
 or_later (Some f) later = Some f
 
 -- the first fault of a tree: each phase reports its least place
-abbrev pub tree_fault : SpecTree → Option TextFault
+abbrev pub tree_fault : SpecTree → Option SpecFault
 tree_fault tree =
     or_later (option_map fault.Unknown (least (unknown_places tree)))
     (or_later (option_map fault.Twice (least (repeated_places tree)))
@@ -50,7 +50,7 @@ pub record IsSpecText (text : List ℕ) (spec : Spec) : Type 0 where
   pub stands : IsSpecOf tree spec
 
 -- the text has this first fault
-abbrev pub HasFault : List ℕ → TextFault → Type 0
+abbrev pub HasFault : List ℕ → SpecFault → Type 0
 HasFault text (fault.Lex place) = IsLexFault text place
 HasFault text (fault.Deep place) = (tokens : List Token) × IsTokens text tokens × (first_deep (lexemes_of text tokens) ≡ Some place)
 HasFault text (fault.Syntax place) =
@@ -59,6 +59,6 @@ HasFault text fault.Memory = Unit {0}
 HasFault text f = (tree : SpecTree) × IsTreeText text tree × (tree_fault tree ≡ Some f)
 
 -- the text's specification, or its first fault
-abbrev pub IsAnswer : List ℕ → Result Spec TextFault → Type 0
+abbrev pub IsAnswer : List ℕ → Result Spec SpecFault → Type 0
 IsAnswer text (Ok spec) = IsSpecText text spec
 IsAnswer text (Err f) = HasFault text f

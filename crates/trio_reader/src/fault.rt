@@ -1,18 +1,5 @@
 //! Why a text is no specification.
 
-use thiserror::Error;
-
-/// Why a text is no specification.
-#[derive(Clone, Copy, Debug, PartialEq, Eq, Error)]
-pub enum SpecFault {
-    /// The text has no reading.
-    #[error("the text is no specification")]
-    Refused,
-    /// Want of memory.
-    #[error("out of memory")]
-    Memory,
-}
-
 /// A count that has a limit.
 #[derive(Clone, Copy, Debug, PartialEq, Eq)]
 pub enum Which {
@@ -22,12 +9,18 @@ pub enum Which {
     Cells,
     /// The sum of the numbers of values of all cells.
     Sizes,
+    /// The greatest static bound of a term.
+    Bound,
+    /// The instance count of the axioms and goals.
+    Instances,
+    /// The brackets that are open at once in the canonical text.
+    Nest,
 }
 
 /// Why a text is no specification, with the place: the phases in their order. The first that finds a fault reports its first place: a byte
 /// from 0 for `Lex`, the number of a token from 0 for the others.
 #[derive(Clone, Copy, Debug, PartialEq, Eq)]
-pub enum TextFault {
+pub enum SpecFault {
     /// A byte that begins no token.
     Lex(u64),
     /// A bracket with which more than 100 are open.
@@ -46,18 +39,4 @@ pub enum TextFault {
     Limit(Which, u64),
     /// Want of memory.
     Memory,
-}
-
-impl TextFault {
-    ghost use Rattle.std.specs.Prelude.{◌≡◌, ◌↔◌};
-
-    /// The fault as those see it who ask for no place.
-    pub fn without_place(self) -> SpecFault
-        ensures { (result ≡ SpecFault.Memory) ↔ (self ≡ TextFault.Memory) }
-    {
-        match self {
-            TextFault::Memory => SpecFault::Memory,
-            _ => SpecFault::Refused,
-        }
-    }
 }

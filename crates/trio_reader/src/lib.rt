@@ -16,6 +16,6 @@ mod scope;
 mod tests;
 mod unknown;
 
-pub use fault::SpecFault;
+pub use fault::{SpecFault, Which};
 pub use laws::{faulty_text_is_no_specification, text_has_one_fault, text_has_one_specification};
 pub use reading::read_spec;

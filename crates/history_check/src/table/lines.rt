@@ -10,7 +10,7 @@ ghost use Rattle.history_check.specs.RowReading.{lines_by, AreRows, has_row, IsF
 
 use crate::table::gather::{cell, has_row};
 use crate::table::parse::row;
-use crate::table::{Entry, HistoryFault, Row};
+use crate::table::{Entry, HistFault, Row};
 use std::alloc::Global;
 use trio_base::List;
 use trio_text::{Lexeme, Token};
@@ -22,7 +22,7 @@ pub fn rows(
     spec: &Spec,
     tokens: &[Token],
     lexemes: &[Lexeme],
-) -> Result<List<Row>, HistoryFault>
+) -> Result<List<Row>, HistFault>
     requires { length lexemes.now ≡ length tokens.now }
     ensures rows { IfOk result (λ rows. AreRows (lines_by tokens.now lexemes.now) rows) }
     ensures sound { IfOk result (λ rows. lines_fault (world_of spec.now) [] (lines_by tokens.now lexemes.now) ≡ None) }
@@ -37,7 +37,7 @@ pub fn rows(
         let (here, behind) = lexemes_left.split_at(count);
         let row = checked_row(alloc, spec, found.as_slice(), line, here)?;
         if found.push(row).is_err() {
-            return Err(HistoryFault::Memory);
+            return Err(HistFault::Memory);
         }
         tokens_left = tokens_left.split_at(count).1;
         lexemes_left = behind;
@@ -60,16 +60,16 @@ fn checked_row(
     earlier: &[Row],
     line: u64,
     lexemes: &[Lexeme],
-) -> Result<Row, HistoryFault>
+) -> Result<Row, HistFault>
     ensures row { IfOk result (λ row. row_of lexemes.now ≡ Some row) }
     ensures sound { IfOk result (λ row. row_fault (world_of spec.now) (has_row earlier.now) line (row_of lexemes.now) ≡ None) }
     ensures fault { IfErr result (IsFault (row_fault (world_of spec.now) (has_row earlier.now) line (row_of lexemes.now))) }
 {
     let Ok(read) = row(alloc, lexemes) else {
-        return Err(HistoryFault::Memory);
+        return Err(HistFault::Memory);
     };
     let Some(row) = read else {
-        return Err(HistoryFault::Syntax(line));
+        return Err(HistFault::Syntax(line));
     };
     match fault(spec, earlier, line, &row) {
         Some(fault) => Err(fault),
@@ -78,21 +78,21 @@ fn checked_row(
 }
 
 /// The first fault of a row behind these earlier ones.
-fn fault(spec: &Spec, earlier: &[Row], line: u64, row: &Row) -> Option<HistoryFault>
+fn fault(spec: &Spec, earlier: &[Row], line: u64, row: &Row) -> Option<HistFault>
     ensures { result ≡ row_fault (world_of spec.now) (has_row earlier.now) line (Some row.now) }
 {
     let name = row.name.as_str();
     if !is_item(spec.items.as_slice(), name) {
-        return Some(HistoryFault::UnknownRow(line));
+        return Some(HistFault::UnknownRow(line));
     }
     if has_row(earlier, name) {
-        return Some(HistoryFault::TwiceRow(line));
+        return Some(HistFault::TwiceRow(line));
     }
     if row.entries.len() != spec.instants as usize {
-        return Some(HistoryFault::Length(line));
+        return Some(HistFault::Length(line));
     }
     let place = outside(row.entries.as_slice())?;
-    Some(HistoryFault::Value(line, place as u64 + 1))
+    Some(HistFault::Value(line, place as u64 + 1))
 }
 
 /// Whether an item has this name.

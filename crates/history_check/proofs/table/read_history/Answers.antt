@@ -1,27 +1,33 @@
-use Rattle.std.proofs.Common.{sym, ◌∙◌, subst, Ok, IfErr}
-use Rattle.trio_types.specs.Cells.{IsTable}
+use Rattle.std.proofs.Common.{◌∙◌, Err}
 use Rattle.trio_types.specs.Verdict.{world_of}
-use Rattle.history_check.specs.Answers.{Says}
-use Rattle.history_check.specs.RowReading.{IsRefusal, IsUnknown}
-use Rattle.history_check.proofs.RowAnswers.{refused_unknown, refused_fault, known_fits}
-use Rattle.history_check.proofs.RowFits.{table_fits}
+use Rattle.history_check.specs.Answers.{IsHistory}
+use Rattle.history_check.proofs.RowFits.{answer_fits}
+use Rattle.history_check.proofs.LineSteps.{passed_answer}
+use Rattle.history_check.proofs.RowAnswers.{fault_answered, joined_answered, exact_answer}
 use Rattle.history_check.proofs.table.read_history.Goals as goal
 
-pub returns-in-Ok-clause-fits : goal.returns-in-Ok-clause-fits
-returns-in-Ok-clause-fits c =
-    known_fits (IsTable (world_of c.args.spec.now)) c.as_slice.result.now c.known.result c.known.ensures.ok
-    (λ table e. table_fits c.args.spec.now c.args.text.now table
-    (subst (λ given. Says (world_of c.args.spec.now) c.args.text.now (Ok given)) (sym c.as_slice.ensures ∙ e) c.in-Ok.ensures.exact))
+pub returns-in_err-rows-clause-exact : goal.returns-in_err-rows-clause-exact
+returns-in_err-rows-clause-exact c =
+    let world = world_of c.args.spec.now in
+    let text = c.args.text.now in
+    let f = c.in_err-rows.field-0.0 in
+    passed_answer (IsHistory world text) c.from_residual.result f c.from_residual.ensures.1
+    (exact_answer world text c.in-Ok.tokens (Err f) c.in-Ok.ensures.0
+    (fault_answered world text c.in-Ok.tokens c.as_slice.result.now c.as_slice-2.result.now f c.as_slice.ensures (c.as_slice-2.ensures ∙ c.in-Ok-lexemes.ensures) c.in_err-rows.ensures.fault))
 
-pub returns-in-Ok-clause-refused : goal.returns-in-Ok-clause-refused
-returns-in-Ok-clause-refused c =
-    refused_unknown (world_of c.args.spec.now) c.args.text.now c.in-Ok.given c.known.result c.in-Ok.ensures.only
-    (subst (λ given. IfErr c.known.result (IsUnknown given)) c.as_slice.ensures c.known.ensures.refused)
+pub returns-clause-exact : goal.returns-clause-exact
+returns-clause-exact c =
+    let world = world_of c.args.spec.now in
+    let text = c.args.text.now in
+    exact_answer world text c.in-Ok.tokens c.joined.result c.in-Ok.ensures.0
+    (joined_answered world text c.in-Ok.tokens c.as_slice.result.now c.as_slice-2.result.now c.in_ok-rows.rows c.as_slice-3.result.now c.joined.result
+    c.as_slice.ensures (c.as_slice-2.ensures ∙ c.in-Ok-lexemes.ensures) c.as_slice-3.ensures c.in_ok-rows.ensures.rows c.in_ok-rows.ensures.sound c.joined.ensures)
 
-pub returns-in-Err : goal.returns-in-Err
-returns-in-Err c = record {
-  ok = tt;
-  fits = tt;
-  refused = subst (IsRefusal (world_of c.args.spec.now) c.args.text.now) (sym c.refusal.ensures)
-      (refused_fault (world_of c.args.spec.now) c.args.text.now c.in-Err.fault c.in-Err.ensures.only);
-}
+pub returns-clause-fits : goal.returns-clause-fits
+returns-clause-fits c =
+    let world = world_of c.args.spec.now in
+    let text = c.args.text.now in
+    answer_fits c.args.spec.now text c.joined.result
+    (exact_answer world text c.in-Ok.tokens c.joined.result c.in-Ok.ensures.0
+    (joined_answered world text c.in-Ok.tokens c.as_slice.result.now c.as_slice-2.result.now c.in_ok-rows.rows c.as_slice-3.result.now c.joined.result
+    c.as_slice.ensures (c.as_slice-2.ensures ∙ c.in-Ok-lexemes.ensures) c.as_slice-3.ensures c.in_ok-rows.ensures.rows c.in_ok-rows.ensures.sound c.joined.ensures))
