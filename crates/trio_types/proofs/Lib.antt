@@ -1,1 +1,9 @@
 -- The lemmas of the crate.
+pub mod Lists
+pub mod TruthAt
+pub mod ValueAt
+pub mod KindsAt
+pub mod BoundsAt
+pub mod CountsAt
+pub mod ShapeAt
+pub mod NamesAt

@@ -1,6 +1,5 @@
 -- The static bound of a term: no value of it, or of its opposite, is above.
-use Rattle.std.specs.Prelude.{ℕ, ◌*◌, max, ℤ, nat_abs, List, [], ◌∷◌, ◌++◌, Option, None, Some, map, slice_get, sum}
-use Rattle.std.specs.List.{flat_map}
+use Rattle.std.specs.Prelude.{ℕ, ◌*◌, max, nat_abs, List, [], ◌∷◌, ◌++◌, Option, None, Some, map, slice_get, sum}
 use Rattle.trio_types.specs.declared.spec.Item.{Item}
 use Rattle.trio_types.specs.declared.formula.Term.{Term}
 use Rattle.trio_types.specs.declared.formula.Term.TheOpen.{Term-F, SignedTerm-F}

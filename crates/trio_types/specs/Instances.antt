@@ -1,5 +1,5 @@
 -- The instance count of a formula.
-use Rattle.std.specs.Prelude.{ℕ, ◌+◌, ◌-◌, ◌*◌, List, length, sum}
+use Rattle.std.specs.Prelude.{ℕ, ◌+◌, ◌-◌, ◌*◌, length, sum}
 use Rattle.trio_base.specs.declared.operators.FarOp.{FarOp}
 use Rattle.trio_base.specs.declared.operators.FarOp.TheVariants as far
 use Rattle.trio_types.specs.declared.formula.Formula.{Formula}

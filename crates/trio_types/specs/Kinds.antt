@@ -1,5 +1,5 @@
 -- The kind of a term, and what formulas use: terms in their roles, reads of items, domains that are named.
-use Rattle.std.specs.Prelude.{ℕ, Bool, true, false, not, ◌&&◌, ◌||◌, ◌==◌, nat_lt, if◌then◌else◌, List, [], ◌∷◌, ◌++◌, Option, None, Some, map, length, slice_get, zip}
+use Rattle.std.specs.Prelude.{ℕ, Bool, true, false, not, ◌&&◌, ◌||◌, ◌==◌, nat_lt, List, [], ◌∷◌, ◌++◌, Option, None, Some, map, length, slice_get, zip}
 use Rattle.std.specs.List.{flat_map}
 use Rattle.std.specs.Option.{option_map}
 use Rattle.trio_base.specs.declared.operators.Rel.{Rel}
@@ -8,7 +8,6 @@ use Rattle.trio_types.specs.declared.spec.DomainKind.{DomainKind}
 use Rattle.trio_types.specs.declared.spec.DomainKind.TheVariants as domain_kind
 use Rattle.trio_types.specs.declared.spec.Domain.{Domain}
 use Rattle.trio_types.specs.declared.spec.Item.{Item}
-use Rattle.trio_types.specs.declared.spec.Axiom.{Axiom}
 use Rattle.trio_types.specs.declared.formula.Term.{Term}
 use Rattle.trio_types.specs.declared.formula.Term.TheOpen.{Term-F, SignedTerm-F}
 use Rattle.trio_types.specs.declared.formula.Term.TheOpen as open_term

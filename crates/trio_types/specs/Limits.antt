@@ -1,5 +1,5 @@
 -- What is counted of a specification, and the limit of each count.
-use Rattle.std.specs.Prelude.{ℕ, ◌*◌, ◌++◌, List, [], ◌∷◌, map, length, sum, sum_by}
+use Rattle.std.specs.Prelude.{ℕ, ◌*◌, ◌++◌, List, [], ◌∷◌, map, length, sum_by}
 use Rattle.trio_base.specs.declared.limits.TheConstants.{MOST_ITEMS, MOST_CELLS, MOST_SIZES, GREATEST_BOUND, MOST_INSTANCES, MOST_OPEN}
 use Rattle.trio_types.specs.declared.spec.Which.{Which}
 use Rattle.trio_types.specs.declared.spec.Which.TheVariants as which

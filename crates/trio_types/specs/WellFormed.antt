@@ -7,8 +7,6 @@ use Rattle.trio_base.specs.declared.limits.TheConstants.{MOST_INSTANTS, MOST_VAL
 use Rattle.trio_types.specs.declared.spec.DomainKind.{DomainKind}
 use Rattle.trio_types.specs.declared.spec.DomainKind.TheVariants as kind
 use Rattle.trio_types.specs.declared.spec.Domain.{Domain}
-use Rattle.trio_types.specs.declared.spec.Item.{Item}
-use Rattle.trio_types.specs.declared.spec.Axiom.{Axiom}
 use Rattle.trio_types.specs.World.{values_of}
 use Rattle.trio_types.specs.Parts.{Parts, claims_of}
 use Rattle.trio_types.specs.Names.{declared_names, are_distinct, variables_of, variables_are_new}
