@@ -3,6 +3,7 @@
 
 mod cells;
 mod formula;
+pub mod laws;
 mod spec;
 
 pub use cells::{CellParts, cell_count, cell_of, cell_parts, cell_size, size_of};
