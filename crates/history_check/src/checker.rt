@@ -45,6 +45,12 @@ fn first_false_instant(spec: &Spec, table: &Table, axiom: &Axiom) -> Option<u32>
 {
     match axiom.at {
         Some(instant) => (!holds(spec, table, &axiom.formula, &[], instant)).then_some(instant),
-        None => (0..spec.instants).find(|instant| !holds(spec, table, &axiom.formula, &[], *instant)),
+        None => (0..spec.instants).find(|instant| !holds(
+            spec,
+            table,
+            &axiom.formula,
+            &[],
+            *instant,
+        )),
     }
 }

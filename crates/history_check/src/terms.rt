@@ -11,7 +11,13 @@ use trio_types::{SignedTerm, Spec, Term, cell_of, index_of, value_at};
 
 /// The value of a term at an instant, under the values of the variables, where it has one.
 #[cycle(value)]
-pub(crate) fn value_of(spec: &Spec, table: &Table, term: &Term, values: &[i64], instant: u32) -> Option<i64>
+pub(crate) fn value_of(
+    spec: &Spec,
+    table: &Table,
+    term: &Term,
+    values: &[i64],
+    instant: u32,
+) -> Option<i64>
     requires table_fits { IsTable (world_of spec.now) table.now }
     requires term_fits { TermFits (world_of spec.now) term.now values.now }
     requires instant_in { instant < spec.now.instants }
@@ -33,7 +39,14 @@ pub(crate) fn value_of(spec: &Spec, table: &Table, term: &Term, values: &[i64], 
 
 /// The value of an item at its arguments; none where one is outside its domain.
 #[cycle(value)]
-fn read(spec: &Spec, table: &Table, item: u32, args: &[Term], values: &[i64], instant: u32) -> Option<i64>
+fn read(
+    spec: &Spec,
+    table: &Table,
+    item: u32,
+    args: &[Term],
+    values: &[i64],
+    instant: u32,
+) -> Option<i64>
     requires table_fits { IsTable (world_of spec.now) table.now }
     requires term_fits { TermFits (world_of spec.now) (term_of.Read item args.now) values.now }
     requires instant_in { instant < spec.now.instants }
@@ -54,7 +67,13 @@ fn read(spec: &Spec, table: &Table, item: u32, args: &[Term], values: &[i64], in
 
 /// The sum of the parts, each with its sign; none where a part has no value.
 #[cycle(value)]
-fn sum(spec: &Spec, table: &Table, parts: &[SignedTerm], values: &[i64], instant: u32) -> Option<i64>
+fn sum(
+    spec: &Spec,
+    table: &Table,
+    parts: &[SignedTerm],
+    values: &[i64],
+    instant: u32,
+) -> Option<i64>
     requires table_fits { IsTable (world_of spec.now) table.now }
     requires term_fits { TermFits (world_of spec.now) (term_of.Sum parts.now) values.now }
     requires instant_in { instant < spec.now.instants }

@@ -1,5 +1,5 @@
 //! The instants inside time that an operator speaks of: neighboring ones, from the first up to the last.
-ghost use Rattle.std.specs.Prelude.{◌≡◌, ◌<◌, ◌≤◌, ◌&&◌, option_map, neg_ℤ};
+ghost use Rattle.std.specs.Prelude.{◌&&◌, pos, neg_ℤ, int_le, int_lt, option_map};
 ghost use Rattle.trio_types.specs.Truth.{is_at_distance, is_not_negative, is_ahead, is_behind};
 ghost use Rattle.history_check.specs.Fits.{Selects, IsNear};
 
@@ -17,6 +17,7 @@ const NONE: Window = Window { from: 0, to: 0 };
 
 /// The instants inside time from one number on and before another.
 fn inside(instants: u32, from: i64, to: i64) -> Window
+    ensures { Selects instants result.from result.to (λ j. int_le from (pos j) && int_lt (pos j) to) }
 {
     let last = i64::from(instants);
     Window {

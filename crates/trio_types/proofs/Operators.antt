@@ -108,7 +108,7 @@ pub som_p_law : (w : World) (f : Formula) (e : List ℤ) (t : List ℕ) (i : ℕ
 som_p_law w f e t i = some_law w f e t (truth w (formula.One one.SomP f) e t i) (λ j. nat_lt j i) (λ j. j < i) (λ j. Decides-ltb j i) (truth-SomP w f e t i)
 
 -- at a distance: a test that passes nothing without one
-pub Tells : (Option ℤ → ℕ → Bool) → (ℤ → ℕ → Type 0) → Type 0
+unfoldable pub Tells : (Option ℤ → ℕ → Bool) → (ℤ → ℕ → Type 0) → Type 0
 Tells q There = ((j : ℕ) → q None j ≡ false) × ((d : ℤ) (j : ℕ) → Decides (q (Some d) j) (There d j))
 
 given : (q : Option ℤ → ℕ → Bool) (There : ℤ → ℕ → Type 0) → Tells q There → (v : Option ℤ) (j : ℕ) → q v j ≡ true → (d : ℤ) × (v ≡ Some d) × There d j
