@@ -25,8 +25,12 @@ pub record TermFits (world : World) (x : Term) (values : List ℤ) : Type 0 wher
   pub bounded : (bound_of world variables x).most ≤ GREATEST_BOUND
 
 -- the value is no greater than the term's bound
+pub record IsWithin (world : World) (x : Term) (variables : List ℕ) (z : ℤ) : Type 0 where
+  pub own : nat_abs z ≤ (bound_of world variables x).own
+  pub most : nat_abs z ≤ (bound_of world variables x).most
+
 abbrev pub IsBounded : World → Term → List ℤ → Option ℤ → Type 0
-IsBounded world x values result = (variables : List ℕ) → AreValues world variables values → (z : ℤ) → result ≡ Some z → nat_abs z ≤ (bound_of world variables x).own
+IsBounded world x values result = (variables : List ℕ) → AreValues world variables values → (z : ℤ) → result ≡ Some z → IsWithin world x variables z
 
 -- a formula of which the same holds, with room for the variables in it
 pub record FormulaFits (world : World) (f : Formula) (values : List ℤ) : Type 0 where

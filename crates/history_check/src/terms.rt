@@ -31,8 +31,10 @@ pub(crate) fn value_of(
         Term::Read(item, args) => read(spec, table, *item, args.as_slice(), values, instant),
         Term::Sum(parts) => sum(spec, table, parts.as_slice(), values, instant),
         Term::Times(number, factor) => {
-            let value = value_of(spec, table, factor.get(), values, instant)?;
-            Some(i64::from(*number) * value)
+            match value_of(spec, table, factor.get(), values, instant) {
+                Some(value) => Some(i64::from(*number) * value),
+                None => None,
+            }
         }
     }
 }
@@ -57,8 +59,13 @@ fn read(
     let domains = declared.args.as_slice();
     let mut indexes = [0; 4];
     for place in 0..args.len() {
-        let value = value_of(spec, table, &args[place], values, instant)?;
-        indexes[place] = index_of(spec, domains[place], value)?;
+        let Some(value) = value_of(spec, table, &args[place], values, instant) else {
+            return None;
+        };
+        let Some(index) = index_of(spec, domains[place], value) else {
+            return None;
+        };
+        indexes[place] = index;
     }
     let cell = cell_of(spec, item, &indexes[..args.len()], instant);
     let index = *table.get(cell as usize);
@@ -82,7 +89,9 @@ fn sum(
 {
     let mut sum = 0;
     for part in parts {
-        let value = value_of(spec, table, &part.term, values, instant)?;
+        let Some(value) = value_of(spec, table, &part.term, values, instant) else {
+            return None;
+        };
         sum += if part.minus { -value } else { value };
     }
     Some(sum)

@@ -5,6 +5,7 @@ use Rattle.std.proofs.lemmas.Bool.{cond-true, cond-false, lt-ltb, le-ltb, false_
 use Rattle.std.proofs.lemmas.Bool.Decides.{Decides-int_eq}
 use Rattle.std.proofs.lemmas.Int.{ints}
 use Rattle.std.proofs.lemmas.List.FromFn.{length-map-range_with_len, get_or-map-range_with_len}
+use Rattle.std.proofs.lemmas.List.Quantifiers.{position-Some}
 use Rattle.std.proofs.lemmas.List.Sums.{position_or_len_is}
 use Rattle.std.proofs.lemmas.Option.{slice_get-get_or, slice_get_within, get_or_from_slice_get}
 use Rattle.trio_types.specs.declared.spec.DomainKind.{DomainKind}
@@ -128,3 +129,8 @@ pub value_of_index : (domains : List Domain) (d : ℕ) (domain : Domain) (v : �
     slice_get (values_in domains d) v ≡ Some (first_of domain.kind +ℤ pos v)
 value_of_index domains d domain v at inside =
     ap (λ zs. slice_get zs v) (values_at domains d domain at) ∙ at_integers (first_of domain.kind) (count_of_values domain.kind) v inside
+
+-- an index is below the number of values
+pub index_below : (values : List ℤ) (z : ℤ) (v : ℕ) → index_of values z ≡ Some v → v < length values
+unfolding index_of
+index_below values z v is = (position-Some (int_eq z) values v z is).0
