@@ -1,0 +1,5 @@
+pub mod Spelled
+pub mod Lines
+pub mod Rows
+pub mod History
+pub mod Decoding

@@ -1,0 +1,13 @@
+//! Histories and tables as texts: their readers, and what they print.
+#![tactic(auto)]
+
+mod fault;
+mod given;
+mod line;
+mod reading;
+mod table;
+
+pub use fault::HistFault;
+pub use given::Given;
+pub use line::{Line, Lines, Value, Values};
+pub use table::Table;
