@@ -51,7 +51,7 @@ abbrev pub args_front : List Lexeme → Option (List Value × List Lexeme)
 args_front (lexeme.Sign symbol.LeftRound ∷ x) = args_from true x
 args_front x = Some ([], x)
 
-abbrev with_entries : List ℕ → List Value → List Lexeme → Option Line
+abbrev pub with_entries : List ℕ → List Value → List Lexeme → Option Line
 with_entries name args (lexeme.Sign symbol.Colon ∷ x) = option_map (λ entries. record { name = name; args = args; entries = entries }) (entries_of x)
 with_entries name args x = None
 
