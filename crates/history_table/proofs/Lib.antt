@@ -1,2 +1,4 @@
 mod Decodes
 mod Spellings
+mod LineRuns
+mod LineSteps

@@ -1,13 +1,22 @@
 -- What the reader of a line goes by: the line that tokens are, found from the front.
-use Rattle.std.specs.Prelude.{◌≡◌, ◌<◌, ℕ, Bool, length, true, false, List, [], ◌∷◌, Option, None, Some}
+use Rattle.std.specs.Prelude.{◌≡◌, ◌<◌, ℕ, Bool, ◌==◌, length, map, find, not, true, false, List, [], ◌∷◌, Option, None, Some, Result, Ok, Err}
+use Rattle.std.specs.List.{list_any, flat_map}
 use Rattle.std.specs.Option.{option_map, option_and_then}
 use Rattle.trio_text.specs.declared.lexeme.Lexeme.{Lexeme}
 use Rattle.trio_text.specs.declared.lexeme.Lexeme.TheVariants as lexeme
 use Rattle.trio_text.specs.declared.token.Reserved.TheVariants as reserved
 use Rattle.trio_text.specs.declared.token.Symbol.TheVariants as symbol
+use Rattle.trio_text.specs.declared.token.Token.{Token}
+use Rattle.trio_types.specs.World.{World}
+use Rattle.history_table.specs.declared.fault.HistFault.{HistFault}
+use Rattle.history_table.specs.declared.fault.HistFault.TheVariants as fault
 use Rattle.history_table.specs.declared.line.Value.{Value}
 use Rattle.history_table.specs.declared.line.Value.TheVariants as written
 use Rattle.history_table.specs.declared.line.Line.{Line}
+use Rattle.history_table.specs.declared.lines.Found.{Found}
+use Rattle.history_table.specs.Lines.{Numbered, Placed, with_lexeme}
+use Rattle.history_table.specs.Rows.{row_number}
+use Rattle.history_table.specs.History.{known_cells, row_numbers}
 
 -- a value in front, and what stands behind it
 abbrev pub value_front : List Lexeme → Option (Value × List Lexeme)
@@ -79,3 +88,47 @@ Lacks token (t ∷ x) = t ≡ token → ⊥
 abbrev pub TookEntry : List Lexeme → List Lexeme → Option (Option Value) → Type 0
 TookEntry before after None = entries_of before ≡ None
 TookEntry before after (Some entry) = (length after < length before) × (entries_of before ≡ with_entry entry (entries_of after))
+
+-- what these lines read as
+abbrev pub placed_of : List Numbered → List Placed
+placed_of lines = map (λ n. record { number = n.number; line = line_of n.tokens }) lines
+
+-- the lines of tokens that say these lexemes
+abbrev pub lines_by : List Token → List Lexeme → List Numbered
+lines_by (token ∷ tokens) (x ∷ xs) = with_lexeme token.line x (lines_by tokens xs)
+lines_by tokens xs = []
+
+-- a line without fault: it is the row of this number, and gives its cells this
+pub record IsFound (world : World) (line : Option Line) (found : Found) : Type 0 where
+  pub row : option_and_then (row_number world) line ≡ Some found.row
+  pub cells : known_cells world found.row line ≡ found.cells
+
+-- these lines were found
+abbrev pub AreFound : World → List Placed → List Found → Type 0
+AreFound world [] [] = Unit {0}
+AreFound world (l ∷ ls) (f ∷ fs) = IsFound world l.line f × AreFound world ls fs
+AreFound world ls fs = ⊥
+
+abbrev pub has_row : List Found → ℕ → Bool
+has_row found row = list_any (λ f. f.row == row) found
+
+-- this is the fault found, or memory was wanting
+abbrev pub IsFault : Option HistFault → HistFault → Type 0
+IsFault found fault.Memory = Unit {0}
+IsFault found f = found ≡ Some f
+
+abbrev pub cells_found : Option Found → List (Option ℕ)
+cells_found None = []
+cells_found (Some f) = f.cells
+
+-- what the line that is this row gives its cells
+abbrev pub cells_at : List Found → ℕ → List (Option ℕ)
+cells_at found row = cells_found (find (λ f. f.row == row) found)
+
+abbrev pub joined : List Found → List ℕ → Option ℕ → Result (List (Option ℕ)) HistFault
+joined found rows None = Ok (flat_map (cells_at found) rows)
+joined found rows (Some row) = Err (fault.MissingRow row)
+
+-- the given history of lines without fault, or the first row without one
+abbrev pub joined_of : World → List Found → Result (List (Option ℕ)) HistFault
+joined_of world found = joined found (row_numbers world) (find (λ row. not (has_row found row)) (row_numbers world))

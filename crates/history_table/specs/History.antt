@@ -24,7 +24,7 @@ abbrev pub read_fault : World → (ℕ → Bool) → ℕ → Option Line → Opt
 read_fault world is_taken number None = Some (fault.Syntax number)
 read_fault world is_taken number (Some line) = row_fault world is_taken number line (row_number world line)
 
-abbrev is_number : Option ℕ → ℕ → Bool
+abbrev pub is_number : Option ℕ → ℕ → Bool
 is_number None row = false
 is_number (Some n) row = n == row
 
@@ -53,7 +53,8 @@ row_numbers world = range_with_len 0 (length (rows_of world))
 abbrev pub missing_row : World → List Placed → Option ℕ
 missing_row world lines = find (λ row. not (list_any (is_row world row) lines)) (row_numbers world)
 
-abbrev known_cells : World → ℕ → Option Line → List (Option ℕ)
+-- what a line that is the row of this number gives its cells
+abbrev pub known_cells : World → ℕ → Option Line → List (Option ℕ)
 known_cells world row None = []
 known_cells world row (Some line) = map (λ cell. option_and_then (λ index. index) cell) (entry_cells world row line)
 
@@ -65,11 +66,11 @@ row_cells world lines row = known_cells world row (option_and_then (λ placed. p
 abbrev pub given_of : World → List Placed → List (Option ℕ)
 given_of world lines = flat_map (row_cells world lines) (row_numbers world)
 
-abbrev if_whole : World → List Placed → Option ℕ → Result (List (Option ℕ)) HistFault
+abbrev pub if_whole : World → List Placed → Option ℕ → Result (List (Option ℕ)) HistFault
 if_whole world lines None = Ok (given_of world lines)
 if_whole world lines (Some row) = Err (fault.MissingRow row)
 
-abbrev if_sound : World → List Placed → Option HistFault → Result (List (Option ℕ)) HistFault
+abbrev pub if_sound : World → List Placed → Option HistFault → Result (List (Option ℕ)) HistFault
 if_sound world lines None = if_whole world lines (missing_row world lines)
 if_sound world lines (Some f) = Err f
 

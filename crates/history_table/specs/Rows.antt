@@ -58,12 +58,12 @@ abbrev pub entry_cell : World → ℕ → Option Value → Option (Option ℕ)
 entry_cell world d None = Some None
 entry_cell world d (Some value) = option_map Some (value_index world d value)
 
-abbrev value_domain : Option Item → ℕ
+abbrev pub value_domain : Option Item → ℕ
 value_domain None = 0
 value_domain (Some item) = item.value
 
 -- the domain of the values of the row of this number
-abbrev row_domain : World → Option Row → ℕ
+abbrev pub row_domain : World → Option Row → ℕ
 row_domain world None = 0
 row_domain world (Some row) = value_domain (slice_get world.items row.item)
 

@@ -1,4 +1,5 @@
 //! Why a text is no history.
+use std::alloc::AllocError;
 use thiserror::Error;
 
 /// Why a text is no history of a specification. Bytes count from 0, lines and columns from 1, rows from 0 by items and tuples of arguments.
@@ -28,4 +29,15 @@ pub enum HistFault {
     /// Want of memory.
     #[error("out of memory")]
     Memory,
+}
+
+impl From<AllocError> for HistFault {
+    ghost use Rattle.std.specs.Prelude.{◌≡◌};
+    ghost use Rattle.history_table.specs.declared.fault.HistFault.TheVariants.{Memory};
+
+    ghost from_gives = { λ _ e. e ≡ Memory };
+
+    fn from(_error: AllocError) -> HistFault {
+        HistFault::Memory
+    }
 }

@@ -4,7 +4,9 @@
 mod fault;
 mod given;
 mod line;
+mod lines;
 mod reading;
+mod rows;
 mod table;
 
 pub use fault::HistFault;
