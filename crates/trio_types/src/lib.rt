@@ -5,7 +5,7 @@ mod cells;
 mod formula;
 mod spec;
 
-pub use cells::CellParts;
+pub use cells::{CellParts, cell_count, cell_of, cell_parts, cell_size, size_of};
 pub use formula::{Formula, Formulas, SignedTerm, SignedTerms, Term, Terms};
 pub use spec::{
     Axiom, Axioms, Domain, DomainKind, Domains, Goal, Ids, Item, Items, Names, Spec, Which,
