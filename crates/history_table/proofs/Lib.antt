@@ -2,3 +2,4 @@ mod Decodes
 mod Spellings
 mod LineRuns
 mod LineSteps
+mod Domains

@@ -1,11 +1,14 @@
 -- Lines one after another: what is known of them behind some without fault.
 use Rattle.std.proofs.Common.{◌≡◌, ℕ, List, [], ◌∷◌, ◌++◌, refl, sym, ap, ◌∙◌, cond, true, false, append_assoc, append-nil, subst, not, take, drop, get_or, length, ◌<◌, ◌+◌, Result, Ok, Err, slice_get, map}
 use Rattle.std.specs.Prelude.{Bool, ◌||◌, ◌==◌, if◌then◌else◌, Option, None, Some}
-use Rattle.std.specs.List.{list_any, find, flat_map, range_with_len}
+use Rattle.std.specs.List.{list_any, find, flat_map, position}
+use Rattle.std.specs.Str.{bytes_eq}
+use Rattle.std.proofs.lemmas.Bool.{and_parts}
 use Rattle.std.specs.Option.{option_and_then}
 use Rattle.std.proofs.lemmas.List.{map-append}
 use Rattle.std.proofs.Math.Path.{fun_ext, ap₂}
 use Rattle.trio_types.specs.World.{World}
+use Rattle.trio_types.specs.Cells.{Row, rows_of}
 use Rattle.trio_text.specs.declared.lexeme.Lexeme.{Lexeme}
 use Rattle.trio_text.specs.declared.token.Token.{Token}
 use Rattle.history_table.specs.declared.fault.HistFault.{HistFault}
@@ -13,9 +16,9 @@ use Rattle.history_table.specs.declared.fault.HistFault.TheVariants as fault
 use Rattle.history_table.specs.declared.line.Line.{Line}
 use Rattle.history_table.specs.declared.lines.Found.{Found}
 use Rattle.history_table.specs.Lines.{Numbered, Placed}
-use Rattle.history_table.specs.Rows.{row_number}
-use Rattle.history_table.specs.History.{is_number, is_row, read_fault, line_fault, lines_fault, first_of, known_cells, row_cells, row_numbers, if_sound, if_whole, history_of}
-use Rattle.history_table.specs.Decoding.{line_of, lines_by, placed_of, IsFound, AreFound, has_row, cells_at, cells_found, joined_of, IsFault}
+use Rattle.history_table.specs.Rows.{same_row}
+use Rattle.history_table.specs.History.{is_named, names, have_row, read_fault, line_fault, lines_fault, first_of, known_cells, row_cells, if_sound, if_whole, history_of}
+use Rattle.history_table.specs.Decoding.{line_of, lines_by, placed_of, IsFound, AreFound, has_row, row_of, cells_at, cells_found, joined, joined_of, IsFault}
 use Rattle.history_table.proofs.LineRuns.{IsRun, eq_from}
 
 -- the lines before `left` were found, and are without fault
@@ -28,30 +31,32 @@ pub record Behind (world : World) (all left : List Numbered) (found : List Found
 pub behind_start : (world : World) (all : List Numbered) → Behind world all all []
 behind_start world all = record { seen = []; whole = refl; are_found = tt; same_fault = refl }
 
-pub has_row_is : (world : World) (seen : List Placed) (found : List Found) → AreFound world seen found → (row : ℕ) →
-    list_any (is_row world row) seen ≡ has_row found row
+pub has_row_is : (world : World) (seen : List Placed) (found : List Found) → AreFound world seen found → (row : Row) →
+    have_row world seen row ≡ has_row found row
 has_row_is world [] [] are row = refl
 has_row_is world [] (f ∷ fs) are row = absurd are
 has_row_is world (p ∷ ps) [] are row = absurd are
 has_row_is world (p ∷ ps) (f ∷ fs) are row =
-    ap (λ o. is_number o row || list_any (is_row world row) ps) are.0.row ∙ ap (λ b. f.row == row || b) (has_row_is world ps fs are.1 row)
+    ap (λ o. is_named o row || have_row world ps row) are.0.row ∙ ap (λ b. same_row (row_of f.row) row || b) (has_row_is world ps fs are.1 row)
 
--- what the first line that is this row gives its cells
-pub cells_is : (world : World) (seen : List Placed) (found : List Found) → AreFound world seen found → (row : ℕ) →
+-- what the first line that names this row gives its cells
+pub cells_is : (world : World) (seen : List Placed) (found : List Found) → AreFound world seen found → (row : Row) →
     row_cells world seen row ≡ cells_at found row
 cells_is world [] [] are row = refl
 cells_is world [] (f ∷ fs) are row = absurd are
 cells_is world (p ∷ ps) [] are row = absurd are
 cells_is world (p ∷ ps) (f ∷ fs) are row =
-    step (is_row world row p) (f.row == row) (ap (λ o. is_number o row) are.0.row) (λ e. eq_from f.row row e)
+    step (names world row p) (same_row (row_of f.row) row) (ap (λ o. is_named o row) are.0.row)
+    (λ e. eq_from f.row.item row.item (and_parts (f.row.item == row.item) (bytes_eq f.row.args row.args) e).0)
+    (cells_is world ps fs are.1 row)
   where
-    step : (b c : Bool) → b ≡ c → (c ≡ true → f.row ≡ row) →
-        known_cells world row (option_and_then (λ q. q.line) (cond b (Some p) (find (is_row world row) ps)))
-        ≡ cells_found (cond c (Some f) (find (λ g. g.row == row) fs))
-    step true true e same = ap (λ r. known_cells world r p.line) (sym (same refl)) ∙ are.0.cells
-    step false false e same = cells_is world ps fs are.1 row
-    step true false e same = cc
-    step false true e same = cc
+    step : (b c : Bool) → b ≡ c → (c ≡ true → f.row.item ≡ row.item) → row_cells world ps row ≡ cells_at fs row →
+        known_cells world row.item (option_and_then (λ q. q.line) (cond b (Some p) (find (names world row) ps)))
+        ≡ cells_found (cond c (Some f) (find (λ g. same_row (row_of g.row) row) fs))
+    step true true e same more = ap (λ r. known_cells world r p.line) (sym (same refl)) ∙ are.0.cells
+    step false false e same more = more
+    step true false e same more = cc
+    step false true e same more = cc
 
 -- the fault of a line behind those found
 fault_is : (world : World) (seen : List Placed) (found : List Found) → AreFound world seen found → (p : Placed) →
@@ -146,6 +151,11 @@ history_is world lines found are none =
     ap (if_sound world lines) none
     ∙ go (fun_ext (has_row_is world lines found are)) (fun_ext (cells_is world lines found are))
   where
-    go : (λ row. list_any (is_row world row) lines) ≡ has_row found → row_cells world lines ≡ cells_at found →
-        if_sound world lines None ≡ joined_of world found
-    go e f = ?
+    step : (o : Option ℕ) → flat_map (row_cells world lines) (rows_of world) ≡ flat_map (cells_at found) (rows_of world) →
+        if_whole world lines o ≡ joined found (rows_of world) o
+    step None e = ap Ok e
+    step (Some row) e = refl
+    go : have_row world lines ≡ has_row found → row_cells world lines ≡ cells_at found → if_sound world lines None ≡ joined_of world found
+    go e f =
+        ap (λ test. if_whole world lines (position (λ row. not (test row)) (rows_of world))) e
+        ∙ step (position (λ row. not (has_row found row)) (rows_of world)) (ap (λ cells. flat_map cells (rows_of world)) f)

@@ -1,5 +1,5 @@
 -- What the reader of a line goes by: the line that tokens are, found from the front.
-use Rattle.std.specs.Prelude.{◌≡◌, ◌<◌, ℕ, Bool, ◌==◌, length, map, find, not, true, false, List, [], ◌∷◌, Option, None, Some, Result, Ok, Err}
+use Rattle.std.specs.Prelude.{◌≡◌, ◌<◌, ℕ, ℤ, pos, Bool, ◌==◌, length, map, find, position, slice_get, not, true, false, List, [], ◌∷◌, Option, None, Some, Result, Ok, Err}
 use Rattle.std.specs.List.{list_any, flat_map}
 use Rattle.std.specs.Option.{option_map, option_and_then}
 use Rattle.trio_text.specs.declared.lexeme.Lexeme.{Lexeme}
@@ -7,16 +7,21 @@ use Rattle.trio_text.specs.declared.lexeme.Lexeme.TheVariants as lexeme
 use Rattle.trio_text.specs.declared.token.Reserved.TheVariants as reserved
 use Rattle.trio_text.specs.declared.token.Symbol.TheVariants as symbol
 use Rattle.trio_text.specs.declared.token.Token.{Token}
+use Rattle.trio_types.specs.declared.spec.Domain.{Domain}
+use Rattle.trio_types.specs.declared.spec.DomainKind.{DomainKind}
+use Rattle.trio_types.specs.declared.spec.DomainKind.TheVariants as domain_kind
 use Rattle.trio_types.specs.World.{World}
+use Rattle.trio_types.specs.Cells.{Row, rows_of}
 use Rattle.history_table.specs.declared.fault.HistFault.{HistFault}
 use Rattle.history_table.specs.declared.fault.HistFault.TheVariants as fault
 use Rattle.history_table.specs.declared.line.Value.{Value}
 use Rattle.history_table.specs.declared.line.Value.TheVariants as written
 use Rattle.history_table.specs.declared.line.Line.{Line}
 use Rattle.history_table.specs.declared.lines.Found.{Found}
+use Rattle.history_table.specs.declared.rows.RowParts.{RowParts}
 use Rattle.history_table.specs.Lines.{Numbered, Placed, with_lexeme}
-use Rattle.history_table.specs.Rows.{row_number}
-use Rattle.history_table.specs.History.{known_cells, row_numbers}
+use Rattle.history_table.specs.Rows.{named_row, same_row}
+use Rattle.history_table.specs.History.{known_cells}
 
 -- a value in front, and what stands behind it
 abbrev pub value_front : List Lexeme → Option (Value × List Lexeme)
@@ -98,10 +103,14 @@ abbrev pub lines_by : List Token → List Lexeme → List Numbered
 lines_by (token ∷ tokens) (x ∷ xs) = with_lexeme token.line x (lines_by tokens xs)
 lines_by tokens xs = []
 
--- a line without fault: it is the row of this number, and gives its cells this
+-- a row as the reader keeps it
+abbrev pub row_of : RowParts → Row
+row_of parts = record { item = parts.item; args = parts.args }
+
+-- a line without fault: it names this row, and gives its cells this
 pub record IsFound (world : World) (line : Option Line) (found : Found) : Type 0 where
-  pub row : option_and_then (row_number world) line ≡ Some found.row
-  pub cells : known_cells world found.row line ≡ found.cells
+  pub row : option_and_then (named_row world) line ≡ Some (row_of found.row)
+  pub cells : known_cells world found.row.item line ≡ found.cells
 
 -- these lines were found
 abbrev pub AreFound : World → List Placed → List Found → Type 0
@@ -109,8 +118,8 @@ AreFound world [] [] = Unit {0}
 AreFound world (l ∷ ls) (f ∷ fs) = IsFound world l.line f × AreFound world ls fs
 AreFound world ls fs = ⊥
 
-abbrev pub has_row : List Found → ℕ → Bool
-has_row found row = list_any (λ f. f.row == row) found
+abbrev pub has_row : List Found → Row → Bool
+has_row found row = list_any (λ f. same_row (row_of f.row) row) found
 
 -- this is the fault found, or memory was wanting
 abbrev pub IsFault : Option HistFault → HistFault → Type 0
@@ -121,14 +130,27 @@ abbrev pub cells_found : Option Found → List (Option ℕ)
 cells_found None = []
 cells_found (Some f) = f.cells
 
--- what the line that is this row gives its cells
-abbrev pub cells_at : List Found → ℕ → List (Option ℕ)
-cells_at found row = cells_found (find (λ f. f.row == row) found)
+-- what the line that names this row gives its cells
+abbrev pub cells_at : List Found → Row → List (Option ℕ)
+cells_at found row = cells_found (find (λ f. same_row (row_of f.row) row) found)
 
-abbrev pub joined : List Found → List ℕ → Option ℕ → Result (List (Option ℕ)) HistFault
+abbrev pub joined : List Found → List Row → Option ℕ → Result (List (Option ℕ)) HistFault
 joined found rows None = Ok (flat_map (cells_at found) rows)
 joined found rows (Some row) = Err (fault.MissingRow row)
 
 -- the given history of lines without fault, or the first row without one
 abbrev pub joined_of : World → List Found → Result (List (Option ℕ)) HistFault
-joined_of world found = joined found (row_numbers world) (find (λ row. not (has_row found row)) (row_numbers world))
+joined_of world found = joined found (rows_of world) (position (λ row. not (has_row found row)) (rows_of world))
+
+abbrev pub first_of : DomainKind → ℤ
+first_of domain_kind.Bool = pos 0
+first_of (domain_kind.Range low high) = low
+first_of (domain_kind.Words words) = pos 0
+
+abbrev pub first_of_domain : Option Domain → ℤ
+first_of_domain None = pos 0
+first_of_domain (Some domain) = first_of domain.kind
+
+-- the first value of the domain of this number
+abbrev pub first_in : List Domain → ℕ → ℤ
+first_in domains d = first_of_domain (slice_get domains d)

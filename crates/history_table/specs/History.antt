@@ -1,40 +1,44 @@
 -- Which given history a text is, or its first fault.
 use Rattle.std.specs.Prelude.{◌≡◌, ℕ, ◌+◌, Bool, not, false, ◌==◌, is_none, if◌then◌else◌, List, [], ◌∷◌, ◌++◌, length, map, find, position, Option, None, Some, Result, Ok, Err}
-use Rattle.std.specs.List.{list_any, flat_map, range_with_len}
+use Rattle.std.specs.List.{list_any, flat_map}
 use Rattle.std.specs.Option.{option_map, option_and_then}
 use Rattle.trio_text.specs.declared.token.Token.{Token}
 use Rattle.trio_text.specs.Tokens.{IsTokens, IsLexFault}
 use Rattle.trio_types.specs.World.{World}
-use Rattle.trio_types.specs.Cells.{rows_of}
+use Rattle.trio_types.specs.Cells.{Row, rows_of}
 use Rattle.history_table.specs.declared.fault.HistFault.{HistFault}
 use Rattle.history_table.specs.declared.fault.HistFault.TheVariants as fault
 use Rattle.history_table.specs.declared.line.Line.{Line}
 use Rattle.history_table.specs.Lines.{Placed, lines_of, AreRead}
-use Rattle.history_table.specs.Rows.{row_number, entry_cells}
+use Rattle.history_table.specs.Rows.{named_row, same_row, entry_cells}
 
--- the first fault of a line that is the row of this number, where these rows are taken by earlier lines
-abbrev pub row_fault : World → (ℕ → Bool) → ℕ → Line → Option ℕ → Option HistFault
+-- the first fault of a line that names this row, where earlier lines have taken these rows
+abbrev pub row_fault : World → (Row → Bool) → ℕ → Line → Option Row → Option HistFault
 row_fault world is_taken number line None = Some (fault.UnknownRow number)
 row_fault world is_taken number line (Some row) =
     if is_taken row then Some (fault.TwiceRow number)
     else (if not (length line.entries == world.instants) then Some (fault.Length number)
-    else option_map (λ column. fault.Value number (column + 1)) (position is_none (entry_cells world row line)))
+    else option_map (λ column. fault.Value number (column + 1)) (position is_none (entry_cells world row.item line)))
 
-abbrev pub read_fault : World → (ℕ → Bool) → ℕ → Option Line → Option HistFault
+abbrev pub read_fault : World → (Row → Bool) → ℕ → Option Line → Option HistFault
 read_fault world is_taken number None = Some (fault.Syntax number)
-read_fault world is_taken number (Some line) = row_fault world is_taken number line (row_number world line)
+read_fault world is_taken number (Some line) = row_fault world is_taken number line (named_row world line)
 
-abbrev pub is_number : Option ℕ → ℕ → Bool
-is_number None row = false
-is_number (Some n) row = n == row
+abbrev pub is_named : Option Row → Row → Bool
+is_named None row = false
+is_named (Some other) row = same_row other row
 
--- the line is the row of this number
-abbrev pub is_row : World → ℕ → Placed → Bool
-is_row world row placed = is_number (option_and_then (row_number world) placed.line) row
+-- the line names this row
+abbrev pub names : World → Row → Placed → Bool
+names world row placed = is_named (option_and_then (named_row world) placed.line) row
+
+-- some of these lines names this row
+abbrev pub have_row : World → List Placed → Row → Bool
+have_row world lines row = list_any (names world row) lines
 
 -- the first fault of a line behind these earlier ones
 abbrev pub line_fault : World → List Placed → Placed → Option HistFault
-line_fault world earlier placed = read_fault world (λ row. list_any (is_row world row) earlier) placed.number placed.line
+line_fault world earlier placed = read_fault world (have_row world earlier) placed.number placed.line
 
 abbrev pub first_of : Option HistFault → Option HistFault → Option HistFault
 first_of None later = later
@@ -45,26 +49,22 @@ unfoldable pub lines_fault : World → List Placed → List Placed → Option Hi
 lines_fault world earlier [] = None
 lines_fault world earlier (placed ∷ lines) = first_of (line_fault world earlier placed) (lines_fault world (earlier ++ placed ∷ []) lines)
 
--- the numbers of all rows
-abbrev pub row_numbers : World → List ℕ
-row_numbers world = range_with_len 0 (length (rows_of world))
-
--- the first row that no line is
+-- the first row that no line names
 abbrev pub missing_row : World → List Placed → Option ℕ
-missing_row world lines = find (λ row. not (list_any (is_row world row) lines)) (row_numbers world)
+missing_row world lines = position (λ row. not (have_row world lines row)) (rows_of world)
 
--- what a line that is the row of this number gives its cells
+-- what a line that is a row of this item gives its cells
 abbrev pub known_cells : World → ℕ → Option Line → List (Option ℕ)
-known_cells world row None = []
-known_cells world row (Some line) = map (λ cell. option_and_then (λ index. index) cell) (entry_cells world row line)
+known_cells world item None = []
+known_cells world item (Some line) = map (λ cell. option_and_then (λ index. index) cell) (entry_cells world item line)
 
--- what the line that is this row gives its cells
-abbrev pub row_cells : World → List Placed → ℕ → List (Option ℕ)
-row_cells world lines row = known_cells world row (option_and_then (λ placed. placed.line) (find (is_row world row) lines))
+-- what the line that names this row gives its cells
+abbrev pub row_cells : World → List Placed → Row → List (Option ℕ)
+row_cells world lines row = known_cells world row.item (option_and_then (λ placed. placed.line) (find (names world row) lines))
 
 -- for each row what its line gives
 abbrev pub given_of : World → List Placed → List (Option ℕ)
-given_of world lines = flat_map (row_cells world lines) (row_numbers world)
+given_of world lines = flat_map (row_cells world lines) (rows_of world)
 
 abbrev pub if_whole : World → List Placed → Option ℕ → Result (List (Option ℕ)) HistFault
 if_whole world lines None = Ok (given_of world lines)

@@ -1,6 +1,6 @@
 -- Which row of a specification a line names, and what its entries give the cells.
 use Rattle.std.specs.Prelude.{ℕ, ℤ, pos, neg_ℤ, Bool, true, false, ◌&&◌, ◌==◌, is_none, List, [], ◌∷◌, map, position, length, Option, None, Some, slice_get}
-use Rattle.std.specs.Option.{option_map}
+use Rattle.std.specs.Option.{option_map, option_and_then}
 use Rattle.std.specs.Str.{bytes_eq}
 use Rattle.trio_types.specs.declared.spec.DomainKind.{DomainKind}
 use Rattle.trio_types.specs.declared.spec.DomainKind.TheVariants as kind
@@ -8,7 +8,7 @@ use Rattle.trio_types.specs.declared.spec.Domain.{Domain}
 use Rattle.trio_types.specs.declared.spec.Item.{Item}
 use Rattle.trio_types.specs.World.{World, values_of}
 use Rattle.trio_types.specs.Values.{index_of}
-use Rattle.trio_types.specs.Cells.{Row, rows_of}
+use Rattle.trio_types.specs.Cells.{Row}
 use Rattle.history_table.specs.declared.line.Value.{Value}
 use Rattle.history_table.specs.declared.line.Value.TheVariants as written
 use Rattle.history_table.specs.declared.line.Line.{Line}
@@ -31,27 +31,31 @@ index_in_domain (Some domain) value = index_in domain.kind value
 abbrev pub value_index : World → ℕ → Value → Option ℕ
 value_index world d value = index_in_domain (slice_get world.domains d) value
 
-abbrev is_index : Option ℕ → ℕ → Bool
-is_index None v = false
-is_index (Some u) v = u == v
+-- the indexes of written values in these domains, one for each; none where one is outside, or there are more or fewer
+abbrev pub arg_indexes : World → List ℕ → List Value → Option (List ℕ)
+arg_indexes world [] [] = Some []
+arg_indexes world (d ∷ ds) (value ∷ values) =
+    option_and_then (λ v. option_map (λ vs. v ∷ vs) (arg_indexes world ds values)) (value_index world d value)
+arg_indexes world ds values = None
 
--- these are written values of these domains, with these indexes
-abbrev pub have_indexes : World → List ℕ → List Value → List ℕ → Bool
-have_indexes world [] [] [] = true
-have_indexes world (d ∷ ds) (value ∷ values) (v ∷ vs) = is_index (value_index world d value) v && have_indexes world ds values vs
-have_indexes world ds values vs = false
+abbrev pub args_of : Option Item → List ℕ
+args_of None = []
+args_of (Some item) = item.args
 
-abbrev names_item : World → Line → Option Item → List ℕ → Bool
-names_item world line None args = false
-names_item world line (Some item) args = bytes_eq line.name item.name && have_indexes world item.args line.args args
+-- the number of the item of this name
+abbrev pub item_named : World → List ℕ → Option ℕ
+item_named world name = position (λ item. bytes_eq item.name name) world.items
 
--- the line has the row's name and arguments
-abbrev pub names_row : World → Line → Row → Bool
-names_row world line row = names_item world line (slice_get world.items row.item) row.args
+abbrev pub row_of_item : World → Line → ℕ → Option Row
+row_of_item world line item =
+    option_map (λ vs. record { item = item; args = vs }) (arg_indexes world (args_of (slice_get world.items item)) line.args)
 
--- the number of the row that the line names
-unfoldable pub row_number : World → Line → Option ℕ
-row_number world line = position (names_row world line) (rows_of world)
+-- the row that the line names; none where its name is no item's, or its arguments are no tuple of the item's domains
+abbrev pub named_row : World → Line → Option Row
+named_row world line = option_and_then (row_of_item world line) (item_named world line.name)
+
+abbrev pub same_row : Row → Row → Bool
+same_row a b = a.item == b.item && bytes_eq a.args b.args
 
 -- what an entry gives a cell of this domain: nothing known, or an index; none where it is neither `?` nor in the domain
 abbrev pub entry_cell : World → ℕ → Option Value → Option (Option ℕ)
@@ -62,11 +66,10 @@ abbrev pub value_domain : Option Item → ℕ
 value_domain None = 0
 value_domain (Some item) = item.value
 
--- the domain of the values of the row of this number
-abbrev pub row_domain : World → Option Row → ℕ
-row_domain world None = 0
-row_domain world (Some row) = value_domain (slice_get world.items row.item)
+-- the domain of an item's values
+abbrev pub domain_of_item : World → ℕ → ℕ
+domain_of_item world item = value_domain (slice_get world.items item)
 
--- what each entry of a line gives, where it is the row of this number
+-- what each entry of a line that is a row of this item gives
 abbrev pub entry_cells : World → ℕ → Line → List (Option (Option ℕ))
-entry_cells world number line = map (entry_cell world (row_domain world (slice_get (rows_of world) number))) line.entries
+entry_cells world item line = map (entry_cell world (domain_of_item world item)) line.entries

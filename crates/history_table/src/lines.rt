@@ -1,24 +1,24 @@
 //! Reads the lines of a history one after another.
-ghost use Rattle.std.specs.Prelude.{◌≡◌, ◌==◌, ◌≤◌, [], length, None, position, is_none, map, take_while, IfOk, IfErr};
+ghost use Rattle.std.specs.Prelude.{◌≡◌, ◌==◌, ◌≤◌, [], length, None, position, is_none, map, take_while, IfOk, IfErr, OnOk, ◌++◌, ◌∷◌};
 ghost use Rattle.std.specs.List.{list_any};
 ghost use Rattle.trio_types.specs.Verdict.{world_of};
 ghost use Rattle.history_table.specs.Rows.{entry_cells};
 ghost use Rattle.history_table.specs.History.{row_fault, read_fault, lines_fault};
-ghost use Rattle.history_table.specs.Decoding.{line_of, lines_by, placed_of, IsFound, AreFound, has_row, IsFault};
+ghost use Rattle.history_table.specs.Decoding.{line_of, lines_by, placed_of, IsFound, AreFound, has_row, row_of, IsFault};
 
 use crate::fault::HistFault;
 use crate::line::Line;
 use crate::reading::line;
-use crate::rows::{first_outside, known_cells, row_domain, row_number};
-use std::alloc::Global;
+use crate::rows::{RowParts, first_outside, known_cells, named_row};
+use std::alloc::{AllocError, Global};
 use trio_base::List;
 use trio_text::{Lexeme, Token};
 use trio_types::Spec;
 
-/// A line without fault: which row it is, by its number, and the index that it gives each cell, where it is known.
+/// A line without fault: which row it is, and the index that it gives each cell, where it is known.
 #[derive(Debug, Drop)]
 pub struct Found {
-    pub row: u32,
+    pub row: RowParts,
     pub cells: List<Option<u16>>,
 }
 
@@ -42,11 +42,18 @@ pub fn read_lines(
         let count = run_length(tokens_left, number);
         let (here, behind) = lexemes_left.split_at(count);
         let line = read_line(alloc, spec, found.as_slice(), number, here)?;
-        found.push(line)?;
+        append(&mut found, line)?;
         tokens_left = tokens_left.split_at(count).1;
         lexemes_left = behind;
     }
     Ok(List::from_vec(found))
+}
+
+fn append(found: &mut Vec<Found>, line: Found) -> Result<(), AllocError>
+    ensures { OnOk result (found.new.items ≡ found.old.items ++ line ∷ []) }
+{
+    found.push(line)?;
+    Ok(())
 }
 
 /// How many tokens at the front are on this line.
@@ -72,16 +79,16 @@ fn read_line(
     let Some(line) = line(alloc, lexemes)? else {
         return Err(HistFault::Syntax(number));
     };
-    let Some(row) = row_number(spec, &line) else {
+    let Some(row) = named_row(alloc, spec, &line)? else {
         return Err(HistFault::UnknownRow(number));
     };
-    if has_row(earlier, row) {
+    if has_row(earlier, &row) {
         return Err(HistFault::TwiceRow(number));
     }
     if line.entries.len() != spec.instants as usize {
         return Err(HistFault::Length(number));
     }
-    let domain = row_domain(spec, row);
+    let domain = spec.items.get(row.item as usize).value;
     if let Some(place) = first_outside(spec, domain, line.entries.as_slice()) {
         return Err(HistFault::Value(number, place as u64 + 1));
     }
@@ -90,8 +97,8 @@ fn read_line(
 }
 
 /// Whether one of the lines is this row.
-fn has_row(found: &[Found], row: u32) -> bool
-    ensures { result ≡ has_row found.now row }
+pub fn has_row(found: &[Found], row: &RowParts) -> bool
+    ensures { result ≡ has_row found.now (row_of row.now) }
 {
-    found.iter().any(|line| line.row == row)
+    found.iter().any(|line| line.row.is(row))
 }

@@ -1,16 +1,26 @@
 //! Which row a line names, and what its entries give the cells.
-ghost use Rattle.std.specs.Prelude.{◌≡◌, ◌<◌, length, slice_get, position, is_none, map, IfOk};
-ghost use Rattle.std.specs.Option.{option_and_then};
+ghost use Rattle.std.specs.Prelude.{◌≡◌, ◌<◌, length, slice_get, position, is_none, map, IfOk, IsTrue, nat_lt, pos, negsuc, ◌≤ℤ◌, ◌<ℤ◌, ◌+ℤ◌, MatchOption};
+ghost use Rattle.std.specs.Option.{option_and_then, option_map};
 ghost use Rattle.trio_types.specs.Verdict.{world_of};
-ghost use Rattle.trio_types.specs.World.{values_of};
+ghost use Rattle.trio_types.specs.World.{values_in};
 ghost use Rattle.trio_types.specs.Values.{index_of};
-ghost use Rattle.history_table.specs.Rows.{index_in, value_index, entry_cell, row_domain, row_number};
+ghost use Rattle.history_table.specs.Decoding.{first_in};
+ghost use Rattle.history_table.specs.Rows.{index_in, value_index, arg_indexes, item_named, named_row, entry_cell};
+ghost use Rattle.history_table.specs.Decoding.{row_of};
+ghost use Rattle.std.specs.List.{list_all};
 ghost use Rattle.trio_types.specs.Cells.{rows_of};
 
 use crate::line::{Line, Value};
 use std::alloc::{AllocError, Global};
 use trio_base::List;
-use trio_types::{DomainKind, Spec, cell_parts};
+use trio_types::{DomainKind, Ids, Spec, cell_count, cell_parts, size_of};
+
+/// A row: the number of its item, and the indexes of its arguments' values.
+#[derive(Debug, Drop)]
+pub struct RowParts {
+    pub item: u32,
+    pub args: Ids,
+}
 
 /// The index of a written value in the domain of this number.
 fn value_index(spec: &Spec, domain: u32, value: &Value) -> Option<u16>
@@ -23,28 +33,88 @@ fn value_index(spec: &Spec, domain: u32, value: &Value) -> Option<u16>
             Some(place as u16)
         }
         (DomainKind::Words(_), _) => None,
-        (kind, Value::Number(number)) => index_of(kind, i64::from(*number)),
-        (kind, Value::Opposite(number)) => index_of(kind, -i64::from(*number)),
+        (_, Value::Number(number)) => index_of(spec, domain, i64::from(*number)),
+        (_, Value::Opposite(number)) => index_of(spec, domain, -i64::from(*number)),
         (DomainKind::Bool, Value::Truth(value)) => Some(u16::from(*value)),
         _ => None,
     }
 }
 
-/// The number of the row that a line names.
-pub fn row_number(spec: &Spec, line: &Line) -> Option<u32>
-    ensures { result ≡ row_number (world_of spec.now) line.now }
+/// The indexes of written values in these domains, one for each.
+fn arg_indexes(
+    alloc: Global,
+    spec: &Spec,
+    domains: &[u32],
+    values: &[Value],
+) -> Result<Option<Ids>, AllocError>
+    requires { IsTrue (list_all (λ d. nat_lt d (length spec.now.domains)) domains.now) }
+    ensures { IfOk result (λ indexes. indexes ≡ arg_indexes (world_of spec.now) domains.now values.now) }
 {
-    None
+    if domains.len() != values.len() {
+        return Ok(None);
+    }
+    let mut indexes = Vec::new(alloc);
+    for place in 0..domains.len() {
+        let Some(index) = value_index(spec, domains[place], &values[place]) else {
+            return Ok(None);
+        };
+        indexes.push(u32::from(index))?;
+    }
+    Ok(Some(List::from_vec(indexes)))
 }
 
-/// The domain of the values of the row of this number.
-pub fn row_domain(spec: &Spec, row: u32) -> u32
-    requires { row < length (rows_of (world_of spec.now)) }
-    ensures is { result ≡ row_domain (world_of spec.now) (slice_get (rows_of (world_of spec.now)) row) }
-    ensures there { result < length spec.now.domains }
+/// The row that a line names.
+pub fn named_row(alloc: Global, spec: &Spec, line: &Line) -> Result<Option<RowParts>, AllocError>
+    ensures { IfOk result (λ row. option_map row_of row ≡ named_row (world_of spec.now) line.now) }
 {
-    let cell = cell_parts(spec, row * spec.instants);
-    spec.items.get(cell.item as usize).value
+    let Some(item) = item_named(spec, line.name.as_str()) else {
+        return Ok(None);
+    };
+    let domains = spec.items.get(item).args.as_slice();
+    match arg_indexes(alloc, spec, domains, line.args.as_slice())? {
+        Some(args) => Ok(Some(RowParts {
+            item: item as u32,
+            args,
+        })),
+        None => Ok(None),
+    }
+}
+
+/// The number of the item of this name.
+fn item_named(spec: &Spec, name: &str) -> Option<usize>
+    ensures { result ≡ item_named (world_of spec.now) name.now }
+{
+    let items = spec.items.as_slice();
+    items.iter().position(|item| item.name.as_str() == name)
+}
+
+/// All rows of a specification in their order.
+pub fn all_rows(alloc: Global, spec: &Spec) -> Result<List<RowParts>, AllocError>
+    ensures { IfOk result (λ rows. map row_of rows ≡ rows_of (world_of spec.now)) }
+{
+    let mut rows = Vec::new(alloc);
+    for row in 0..cell_count(spec) / spec.instants {
+        let cell = cell_parts(spec, row * spec.instants);
+        let args = List::from_slice(alloc, &cell.args[..cell.arity as usize])?;
+        rows.push(RowParts {
+            item: cell.item,
+            args,
+        })?;
+    }
+    Ok(List::from_vec(rows))
+}
+
+impl RowParts {
+    ghost use Rattle.std.specs.Prelude.{◌≡◌};
+    ghost use Rattle.history_table.specs.Rows.{same_row};
+    ghost use Rattle.history_table.specs.Decoding.{row_of};
+
+    /// Whether it is the same row.
+    pub fn is(&self, other: &RowParts) -> bool
+        ensures { result ≡ same_row (row_of self.now) (row_of other.now) }
+    {
+        self.item == other.item && self.args.as_slice() == other.args.as_slice()
+    }
 }
 
 /// What an entry gives its cell: nothing known, or an index; none where it is neither `?` nor in the domain.
@@ -88,9 +158,45 @@ pub fn known_cells(
     Ok(List::from_vec(cells))
 }
 
-/// The index of a number among a domain's values.
-fn index_of(kind: &DomainKind, number: i64) -> Option<u16>
-    ensures { result ≡ index_of (values_of kind.now) number }
+/// The first value of the domain of this number: the least number of a range, and 0 else.
+fn first_value(spec: &Spec, domain: u32) -> i64
+    requires { domain < length spec.now.domains }
+    ensures is { result ≡ first_in spec.now.domains domain }
+    ensures not_far_back { negsuc 999999 ≤ℤ result }
+    ensures not_far_on { result ≤ℤ pos 1000000 }
 {
-    None
+    match &spec.domains.get(domain as usize).kind {
+        DomainKind::Bool | DomainKind::Words(_) => 0,
+        DomainKind::Range(low, _) => *low,
+    }
+}
+
+/// How far a number stands behind the first value; none where it stands before it.
+fn behind_first(first: i64, number: i64) -> Option<u64>
+    requires first_back { negsuc 999999 ≤ℤ first }
+    requires first_on { first ≤ℤ pos 1000000 }
+    requires back { negsuc 4294967295 ≤ℤ number }
+    requires on { number ≤ℤ pos 4294967296 }
+    ensures { MatchOption result (number <ℤ first) (λ place. number ≡ first +ℤ pos place) }
+{
+    if number < first {
+        None
+    } else {
+        Some((number - first) as u64)
+    }
+}
+
+/// The index of a number among the values of the domain of this number.
+fn index_of(spec: &Spec, domain: u32, number: i64) -> Option<u16>
+    requires there { domain < length spec.now.domains }
+    requires back { negsuc 4294967295 ≤ℤ number }
+    requires on { number ≤ℤ pos 4294967296 }
+    ensures { result ≡ index_of (values_in spec.now.domains domain) number }
+{
+    let place = behind_first(first_value(spec, domain), number)?;
+    if place < u64::from(size_of(spec, domain)) {
+        Some(place as u16)
+    } else {
+        None
+    }
 }
