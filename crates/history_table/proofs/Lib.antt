@@ -3,3 +3,4 @@ mod Spellings
 mod LineRuns
 mod LineSteps
 mod Domains
+mod Arguments

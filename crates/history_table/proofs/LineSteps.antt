@@ -1,5 +1,5 @@
 -- Lines one after another: what is known of them behind some without fault.
-use Rattle.std.proofs.Common.{◌≡◌, ℕ, List, [], ◌∷◌, ◌++◌, refl, sym, ap, ◌∙◌, cond, true, false, append_assoc, append-nil, subst, not, take, drop, get_or, length, ◌<◌, ◌+◌, Result, Ok, Err, slice_get, map}
+use Rattle.std.proofs.Common.{◌≡◌, ℕ, List, [], ◌∷◌, ◌++◌, refl, sym, ap, ◌∙◌, cond, true, false, append_assoc, append-nil, subst, not, take, drop, get_or, length, ◌<◌, ◌+◌, Result, Ok, Err, slice_get, map, IsErrAnd, IfErr}
 use Rattle.std.specs.Prelude.{Bool, ◌||◌, ◌==◌, if◌then◌else◌, Option, None, Some}
 use Rattle.std.specs.List.{list_any, find, flat_map, position}
 use Rattle.std.specs.Str.{bytes_eq}
@@ -159,3 +159,8 @@ history_is world lines found are none =
     go e f =
         ap (λ test. if_whole world lines (position (λ row. not (test row)) (rows_of world))) e
         ∙ step (position (λ row. not (has_row found row)) (rows_of world)) (ap (λ cells. flat_map cells (rows_of world)) f)
+
+-- the exit of a `?`
+pub passed_on : {A : Type 0} (Q : HistFault → Type 0) (r : Result A HistFault) (f : HistFault) → IsErrAnd r (λ g. g ≡ f) → Q f → IfErr r Q
+passed_on Q (Ok x) f same q = tt
+passed_on Q (Err g) f same q = subst Q (sym same) q

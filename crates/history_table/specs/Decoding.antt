@@ -154,3 +154,8 @@ first_of_domain (Some domain) = first_of domain.kind
 -- the first value of the domain of this number
 abbrev pub first_in : List Domain → ℕ → ℤ
 first_in domains d = first_of_domain (slice_get domains d)
+
+-- this is the answer for these lines, or memory was wanting
+abbrev pub IsJoined : World → List Found → Result (List (Option ℕ)) HistFault → Type 0
+IsJoined world found (Err fault.Memory) = Unit {0}
+IsJoined world found answer = joined_of world found ≡ answer

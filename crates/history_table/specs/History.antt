@@ -10,7 +10,7 @@ use Rattle.history_table.specs.declared.fault.HistFault.{HistFault}
 use Rattle.history_table.specs.declared.fault.HistFault.TheVariants as fault
 use Rattle.history_table.specs.declared.line.Line.{Line}
 use Rattle.history_table.specs.Lines.{Placed, lines_of, AreRead}
-use Rattle.history_table.specs.Rows.{named_row, same_row, entry_cells}
+use Rattle.history_table.specs.Rows.{named_row, same_row, is_outside, known_index}
 
 -- the first fault of a line that names this row, where earlier lines have taken these rows
 abbrev pub row_fault : World → (Row → Bool) → ℕ → Line → Option Row → Option HistFault
@@ -18,7 +18,7 @@ row_fault world is_taken number line None = Some (fault.UnknownRow number)
 row_fault world is_taken number line (Some row) =
     if is_taken row then Some (fault.TwiceRow number)
     else (if not (length line.entries == world.instants) then Some (fault.Length number)
-    else option_map (λ column. fault.Value number (column + 1)) (position is_none (entry_cells world row.item line)))
+    else option_map (λ column. fault.Value number (column + 1)) (position (is_outside world row.item) line.entries))
 
 abbrev pub read_fault : World → (Row → Bool) → ℕ → Option Line → Option HistFault
 read_fault world is_taken number None = Some (fault.Syntax number)
@@ -56,7 +56,7 @@ missing_row world lines = position (λ row. not (have_row world lines row)) (row
 -- what a line that is a row of this item gives its cells
 abbrev pub known_cells : World → ℕ → Option Line → List (Option ℕ)
 known_cells world item None = []
-known_cells world item (Some line) = map (λ cell. option_and_then (λ index. index) cell) (entry_cells world item line)
+known_cells world item (Some line) = map (known_index world item) line.entries
 
 -- what the line that names this row gives its cells
 abbrev pub row_cells : World → List Placed → Row → List (Option ℕ)

@@ -3,3 +3,4 @@ pub mod Lines
 pub mod Rows
 pub mod History
 pub mod Decoding
+pub mod Fitting

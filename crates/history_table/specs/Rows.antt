@@ -15,7 +15,7 @@ use Rattle.history_table.specs.declared.line.Line.{Line}
 
 -- the index of a written value in a domain: a number in a range or, as 0 and 1, in bool; `false` and `true` in bool; a word among words
 abbrev pub index_in : DomainKind → Value → Option ℕ
-index_in (kind.Words words) (written.Word name) = position (bytes_eq name) words
+index_in (kind.Words words) (written.Word name) = position (λ word. bytes_eq word name) words
 index_in (kind.Words words) value = None
 index_in values (written.Number n) = index_of (values_of values) (pos n)
 index_in values (written.Opposite n) = index_of (values_of values) (neg_ℤ (pos n))
@@ -70,6 +70,10 @@ value_domain (Some item) = item.value
 abbrev pub domain_of_item : World → ℕ → ℕ
 domain_of_item world item = value_domain (slice_get world.items item)
 
--- what each entry of a line that is a row of this item gives
-abbrev pub entry_cells : World → ℕ → Line → List (Option (Option ℕ))
-entry_cells world item line = map (entry_cell world (domain_of_item world item)) line.entries
+-- the entry is neither `?` nor in the domain of the item's values
+abbrev pub is_outside : World → ℕ → Option Value → Bool
+is_outside world item entry = is_none (entry_cell world (domain_of_item world item) entry)
+
+-- the index that an entry gives a cell of the item, where it is known
+abbrev pub known_index : World → ℕ → Option Value → Option ℕ
+known_index world item entry = option_and_then (λ index. index) (entry_cell world (domain_of_item world item) entry)

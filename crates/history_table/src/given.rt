@@ -29,6 +29,15 @@ impl Given {
         }
     }
 
+    /// The given history of these entries. It takes no memory.
+    pub fn from_vec(entries: Vec<Option<u16>>) -> Given
+        ensures { result ≡ entries.items }
+    {
+        Given {
+            indexes: List::from_vec(entries),
+        }
+    }
+
     /// Appends an index. Only want of memory refuses it, and then the value comes back and the list is as before.
     pub fn push(&mut self, value: Option<u16>) -> Result<(), (Option<u16>, AllocError)>
         ensures ok { OnOk result (self.new ≡ self.old ++ value ∷ []) }

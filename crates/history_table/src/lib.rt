@@ -5,11 +5,13 @@ mod fault;
 mod given;
 mod line;
 mod lines;
+mod reader;
 mod reading;
 mod rows;
 mod table;
 
 pub use fault::HistFault;
 pub use given::Given;
+pub use reader::read_history;
 pub use line::{Line, Lines, Value, Values};
 pub use table::Table;

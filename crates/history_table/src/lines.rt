@@ -2,7 +2,6 @@
 ghost use Rattle.std.specs.Prelude.{◌≡◌, ◌==◌, ◌≤◌, [], length, None, position, is_none, map, take_while, IfOk, IfErr, OnOk, ◌++◌, ◌∷◌};
 ghost use Rattle.std.specs.List.{list_any};
 ghost use Rattle.trio_types.specs.Verdict.{world_of};
-ghost use Rattle.history_table.specs.Rows.{entry_cells};
 ghost use Rattle.history_table.specs.History.{row_fault, read_fault, lines_fault};
 ghost use Rattle.history_table.specs.Decoding.{line_of, lines_by, placed_of, IsFound, AreFound, has_row, row_of, IsFault};
 
@@ -88,11 +87,10 @@ fn read_line(
     if line.entries.len() != spec.instants as usize {
         return Err(HistFault::Length(number));
     }
-    let domain = spec.items.get(row.item as usize).value;
-    if let Some(place) = first_outside(spec, domain, line.entries.as_slice()) {
+    if let Some(place) = first_outside(spec, row.item, line.entries.as_slice()) {
         return Err(HistFault::Value(number, place as u64 + 1));
     }
-    let cells = known_cells(alloc, spec, domain, line.entries.as_slice())?;
+    let cells = known_cells(alloc, spec, row.item, line.entries.as_slice())?;
     Ok(Found { row, cells })
 }
 

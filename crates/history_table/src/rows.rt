@@ -1,25 +1,33 @@
 //! Which row a line names, and what its entries give the cells.
-ghost use Rattle.std.specs.Prelude.{◌≡◌, ◌<◌, length, slice_get, position, is_none, map, IfOk, IsTrue, nat_lt, pos, negsuc, ◌≤ℤ◌, ◌<ℤ◌, ◌+ℤ◌, MatchOption};
+ghost use Rattle.std.specs.Prelude.{◌≡◌, ◌<◌, length, slice_get, position, is_none, map, IfOk, pos, negsuc, ◌≤ℤ◌, ◌<ℤ◌, ◌+ℤ◌, MatchOption, IfSome};
 ghost use Rattle.std.specs.Option.{option_and_then, option_map};
 ghost use Rattle.trio_types.specs.Verdict.{world_of};
 ghost use Rattle.trio_types.specs.World.{values_in};
 ghost use Rattle.trio_types.specs.Values.{index_of};
 ghost use Rattle.history_table.specs.Decoding.{first_in};
-ghost use Rattle.history_table.specs.Rows.{index_in, value_index, arg_indexes, item_named, named_row, entry_cell};
+ghost use Rattle.history_table.specs.Rows.{index_in, value_index, args_of, arg_indexes, item_named, named_row, domain_of_item, entry_cell, is_outside, known_index};
+ghost use Rattle.std.specs.Str.{bytes_eq};
 ghost use Rattle.history_table.specs.Decoding.{row_of};
-ghost use Rattle.std.specs.List.{list_all};
 ghost use Rattle.trio_types.specs.Cells.{rows_of};
 
 use crate::line::{Line, Value};
 use std::alloc::{AllocError, Global};
-use trio_base::List;
-use trio_types::{DomainKind, Ids, Spec, cell_count, cell_parts, size_of};
+use trio_base::{List, Name};
+use trio_types::{DomainKind, Ids, Item, Spec, cell_count, cell_parts, size_of};
 
 /// A row: the number of its item, and the indexes of its arguments' values.
 #[derive(Debug, Drop)]
 pub struct RowParts {
     pub item: u32,
     pub args: Ids,
+}
+
+/// The index of a word among others.
+fn word_index(words: &[Name], name: &str) -> Option<usize>
+    ensures is { result ≡ position (λ word. bytes_eq word name.now) words.now }
+    ensures within { IfSome result (λ place. place < length words.now) }
+{
+    words.iter().position(|word| word.as_str() == name)
 }
 
 /// The index of a written value in the domain of this number.
@@ -29,7 +37,7 @@ fn value_index(spec: &Spec, domain: u32, value: &Value) -> Option<u16>
 {
     match (&spec.domains.get(domain as usize).kind, value) {
         (DomainKind::Words(words), Value::Word(name)) => {
-            let place = words.as_slice().iter().position(|word| word.as_str() == name.as_str())?;
+            let place = word_index(words.as_slice(), name.as_str())?;
             Some(place as u16)
         }
         (DomainKind::Words(_), _) => None,
@@ -40,16 +48,17 @@ fn value_index(spec: &Spec, domain: u32, value: &Value) -> Option<u16>
     }
 }
 
-/// The indexes of written values in these domains, one for each.
+/// The indexes of written values in the domains of an item's arguments, one for each.
 fn arg_indexes(
     alloc: Global,
     spec: &Spec,
-    domains: &[u32],
+    item: u32,
     values: &[Value],
 ) -> Result<Option<Ids>, AllocError>
-    requires { IsTrue (list_all (λ d. nat_lt d (length spec.now.domains)) domains.now) }
-    ensures { IfOk result (λ indexes. indexes ≡ arg_indexes (world_of spec.now) domains.now values.now) }
+    requires { item < length spec.now.items }
+    ensures { IfOk result (λ indexes. indexes ≡ arg_indexes (world_of spec.now) (args_of (slice_get spec.now.items item)) values.now) }
 {
+    let domains = spec.items.get(item as usize).args.as_slice();
     if domains.len() != values.len() {
         return Ok(None);
     }
@@ -65,27 +74,33 @@ fn arg_indexes(
 
 /// The row that a line names.
 pub fn named_row(alloc: Global, spec: &Spec, line: &Line) -> Result<Option<RowParts>, AllocError>
-    ensures { IfOk result (λ row. option_map row_of row ≡ named_row (world_of spec.now) line.now) }
+    ensures named { IfOk result (λ row. option_map row_of row ≡ named_row (world_of spec.now) line.now) }
+    ensures within { IfOk result (λ found. IfSome found (λ row. row.item < length spec.now.items)) }
 {
     let Some(item) = item_named(spec, line.name.as_str()) else {
         return Ok(None);
     };
-    let domains = spec.items.get(item).args.as_slice();
-    match arg_indexes(alloc, spec, domains, line.args.as_slice())? {
-        Some(args) => Ok(Some(RowParts {
-            item: item as u32,
-            args,
-        })),
+    match arg_indexes(alloc, spec, item, line.args.as_slice())? {
+        Some(args) => Ok(Some(RowParts { item, args })),
         None => Ok(None),
     }
 }
 
-/// The number of the item of this name.
-fn item_named(spec: &Spec, name: &str) -> Option<usize>
-    ensures { result ≡ item_named (world_of spec.now) name.now }
+/// The place of the item of this name.
+fn item_place(items: &[Item], name: &str) -> Option<usize>
+    ensures is { result ≡ position (λ item. bytes_eq item.name name.now) items.now }
+    ensures within { IfSome result (λ place. place < length items.now) }
 {
-    let items = spec.items.as_slice();
     items.iter().position(|item| item.name.as_str() == name)
+}
+
+/// The number of the item of this name.
+fn item_named(spec: &Spec, name: &str) -> Option<u32>
+    ensures is { result ≡ item_named (world_of spec.now) name.now }
+    ensures within { IfSome result (λ item. item < length spec.now.items) }
+{
+    let place = item_place(spec.items.as_slice(), name)?;
+    Some(place as u32)
 }
 
 /// All rows of a specification in their order.
@@ -117,43 +132,43 @@ impl RowParts {
     }
 }
 
-/// What an entry gives its cell: nothing known, or an index; none where it is neither `?` nor in the domain.
-fn entry_cell(spec: &Spec, domain: u32, entry: &Option<Value>) -> Option<Option<u16>>
-    requires { domain < length spec.now.domains }
-    ensures { result ≡ entry_cell (world_of spec.now) domain entry.now }
+/// What an entry gives a cell of the item of this number: nothing known, or an index; none where it is neither `?` nor in the domain.
+fn entry_cell(spec: &Spec, item: u32, entry: &Option<Value>) -> Option<Option<u16>>
+    requires { item < length spec.now.items }
+    ensures { result ≡ entry_cell (world_of spec.now) (domain_of_item (world_of spec.now) item) entry.now }
 {
     match entry {
         None => Some(None),
-        Some(value) => Some(Some(value_index(spec, domain, value)?)),
-    }
-}
-
-/// The place of the first entry that is neither `?` nor in the domain.
-pub fn first_outside(spec: &Spec, domain: u32, entries: &[Option<Value>]) -> Option<usize>
-    requires { domain < length spec.now.domains }
-    ensures { result ≡ position is_none (map (entry_cell (world_of spec.now) domain) entries.now) }
-{
-    for (place, entry) in entries.iter().enumerate() {
-        if entry_cell(spec, domain, entry).is_none() {
-            return Some(place);
+        Some(value) => {
+            let domain = spec.items.get(item as usize).value;
+            Some(Some(value_index(spec, domain, value)?))
         }
     }
-    None
 }
 
-/// What the entries give their cells.
+/// The place of the first entry that is neither `?` nor in the domain of the item's values.
+pub fn first_outside(spec: &Spec, item: u32, entries: &[Option<Value>]) -> Option<usize>
+    requires { item < length spec.now.items }
+    ensures { result ≡ position (is_outside (world_of spec.now) item) entries.now }
+{
+    entries
+        .iter()
+        .position(|entry| entry_cell(spec, item, entry).is_none())
+}
+
+/// The indexes that the entries give the cells of the item, where they are known.
 pub fn known_cells(
     alloc: Global,
     spec: &Spec,
-    domain: u32,
+    item: u32,
     entries: &[Option<Value>],
 ) -> Result<List<Option<u16>>, AllocError>
-    requires { domain < length spec.now.domains }
-    ensures { IfOk result (λ cells. cells ≡ map (λ cell. option_and_then (λ index. index) cell) (map (entry_cell (world_of spec.now) domain) entries.now)) }
+    requires { item < length spec.now.items }
+    ensures { IfOk result (λ cells. cells ≡ map (known_index (world_of spec.now) item) entries.now) }
 {
     let mut cells = Vec::new(alloc);
     for entry in entries {
-        cells.push(entry_cell(spec, domain, entry).flatten())?;
+        cells.push(entry_cell(spec, item, entry).flatten())?;
     }
     Ok(List::from_vec(cells))
 }
