@@ -11,3 +11,7 @@ pub mod Integers
 pub mod Domains
 pub mod Specs
 pub mod CellNumbers
+pub mod Operators
+pub mod CellOrder
+pub mod Atoms
+pub mod Verdicts

@@ -1,9 +1,12 @@
 -- What tests and searches of lists say of their elements, place by place.
 use Rattle.std.proofs.Common.{◌≡◌, ℕ, zero, suc, ◌+◌, ◌<◌, ◌≤◌, Bool, true, false, not, ◌&&◌, ◌||◌, ◌⊎◌, List, [], ◌∷◌, ◌++◌, map, length, take, drop, Option, None, Some, slice_get, find, inl, inr, refl, sym, ap, ◌∙◌, arith}
 use Rattle.std.specs.List.{list_all, list_any, range_with_len, flat_map}
+use Rattle.std.specs.Str.{bytes_eq}
+use Rattle.std.proofs.lemmas.Slice.Eq.{bytes_eq-Decides}
+use Rattle.trio_types.specs.Names.{are_distinct}
 use Rattle.std.specs.Option.{option_map, option_or}
 use Rattle.std.proofs.Math.Logic.{⊎_elim}
-use Rattle.std.proofs.lemmas.Bool.{false≢true, and_parts, and_from, or_cases, or_left, or_right, cond-true, cond-false, cases_Bool, cases_lt}
+use Rattle.std.proofs.lemmas.Bool.{false≢true, not-true, and_parts, and_from, or_cases, or_left, or_right, cond-true, cond-false, cases_Bool, cases_lt}
 use Rattle.std.proofs.lemmas.Option.{none-some, same_Some}
 
 -- each element passes
@@ -191,3 +194,18 @@ get_of_take zero xs k x at = absurd (none-some x at)
 get_of_take (suc n) [] k x at = absurd (none-some x at)
 get_of_take (suc n) (y ∷ ys) zero x at = at
 get_of_take (suc n) (y ∷ ys) (suc k) x at = get_of_take n ys k x at
+
+-- names that are distinct stand at one place each
+pub distinct_places : (names : List (List ℕ)) → are_distinct names ≡ true → (k l : ℕ) (name : List ℕ) → slice_get names k ≡ Some name → slice_get names l ≡ Some name → k ≡ l
+distinct_places [] are k l name kt lt = absurd (none-some name kt)
+distinct_places (n ∷ names) are zero zero name kt lt = refl
+distinct_places (n ∷ names) are zero (suc l) name kt lt =
+    let new = and_parts (not (list_any (bytes_eq n) names)) (are_distinct names) are in
+    absurd (false≢true (sym (not-true (list_any (bytes_eq n) names) new.0)
+    ∙ any_from_some (bytes_eq n) names l name lt ((bytes_eq-Decides n name).1 (same_Some n name kt))))
+distinct_places (n ∷ names) are (suc k) zero name kt lt =
+    let new = and_parts (not (list_any (bytes_eq n) names)) (are_distinct names) are in
+    absurd (false≢true (sym (not-true (list_any (bytes_eq n) names) new.0)
+    ∙ any_from_some (bytes_eq n) names k name kt ((bytes_eq-Decides n name).1 (same_Some n name lt))))
+distinct_places (n ∷ names) are (suc k) (suc l) name kt lt =
+    ap suc (distinct_places names (and_parts (not (list_any (bytes_eq n) names)) (are_distinct names) are).1 k l name kt lt)

@@ -1,9 +1,10 @@
 -- What is known of every specification, since it is well formed.
-use Rattle.std.proofs.Common.{◌≡◌, ℕ, ◌+◌, ◌<◌, ◌≤◌, true, nat_le, [], ◌∷◌, ◌++◌, length, Option, None, Some, slice_get, ℤ, pos, negsuc, ◌+ℤ◌, ◌-ℤ◌, ◌≤ℤ◌, refl, sym, ap, ◌∙◌, arith}
+use Rattle.std.proofs.Common.{subst, ◌≢◌, ◌≡◌, ℕ, ◌+◌, ◌<◌, ◌≤◌, true, nat_le, [], ◌∷◌, ◌++◌, length, Option, None, Some, slice_get, ℤ, pos, negsuc, ◌+ℤ◌, ◌-ℤ◌, ◌≤ℤ◌, refl, sym, ap, ◌∙◌, arith}
 use Rattle.std.specs.List.{list_all, flat_map}
 use Rattle.std.specs.Option.{option_map}
 use Rattle.std.proofs.lemmas.Bool.{and_parts, and_from, ltb-true, leb-true, false≢true}
-use Rattle.std.proofs.lemmas.Option.{slice_get-map}
+use Rattle.std.proofs.lemmas.Int.{ints}
+use Rattle.std.proofs.lemmas.Option.{slice_get-map, same_Some}
 use Rattle.trio_types.specs.declared.spec.DomainKind.{DomainKind}
 use Rattle.trio_types.specs.declared.spec.DomainKind.TheVariants as kind
 use Rattle.trio_types.specs.declared.spec.Domain.{Domain}
@@ -12,15 +13,16 @@ use Rattle.trio_types.specs.declared.spec.Spec.{Spec}
 use Rattle.trio_types.specs.declared.spec.Which.{Which}
 use Rattle.trio_types.specs.declared.spec.Which.TheVariants as which
 use Rattle.trio_base.specs.declared.limits.TheConstants.{MOST_INSTANTS, MOST_VALUES, MOST_ARGUMENTS}
-use Rattle.trio_types.specs.World.{World, at_least_zero, values_of}
+use Rattle.trio_types.specs.World.{World, at_least_zero, values_of, values_in, size_of}
+use Rattle.trio_types.specs.Values.{index_of}
 use Rattle.trio_types.specs.Parts.{Parts, world_of_parts, claims_of}
 use Rattle.trio_types.specs.Kinds.{of_domain, has_kind, kind_in, is_right, item_uses, uses}
 use Rattle.trio_types.specs.Limits.{count_of, limit_of, counted}
 use Rattle.trio_types.specs.WellFormed.{has_instants, has_bool, values_fit, domains_fit, items_fit, names_are_names, names_are_distinct, variables_are_distinct, kinds_are_right, parts_are_many, numbers_are_small, instants_fit, limits_are_met, is_well_formed}
 use Rattle.trio_types.specs.Verdict.{parts_of}
-use Rattle.trio_types.proofs.Lists.{each_of, all_left, all_flat, get_left, get_right}
+use Rattle.trio_types.proofs.Lists.{each_of, all_left, all_flat, get_left, get_right, get_within}
 use Rattle.trio_types.proofs.Integers.{Decides-int_le}
-use Rattle.trio_types.proofs.Domains.{count_of_values, values_are, length-integers, first_of}
+use Rattle.trio_types.proofs.Domains.{count_of_values, values_are, length-integers, first_of, size_at, value_of_index, index_of_value, no_index}
 
 -- the conditions, each by its name
 pub record Formed (p : Parts) : Type 0 where
@@ -169,3 +171,49 @@ value_domain p f k item at = named p f k item at (length item.args + 0) item.val
 
 pub few_arguments : (p : Parts) → Formed p → (k : ℕ) (item : Item) → slice_get p.items k ≡ Some item → length item.args ≤ 4
 few_arguments p f k item at = leb-true (length item.args) MOST_ARGUMENTS (each_of (λ item. nat_le (length item.args) MOST_ARGUMENTS) p.items f.items k item at)
+
+-- the first value of a domain, and where it lies
+pub first_at_zero : (p : Parts) → Formed p → (d : ℕ) (domain : Domain) → slice_get p.domains d ≡ Some domain → slice_get (values_in p.domains d) 0 ≡ Some (first_of domain.kind)
+first_at_zero p f d domain at =
+    let same : first_of domain.kind +ℤ pos 0 ≡ first_of domain.kind = omega (arith, ints) in
+    value_of_index p.domains d domain 0 at (some_value p f d domain at).0 ∙ ap Some same
+
+pub record FirstFits (z : ℤ) : Type 0 where
+  pub not_far_back : negsuc 999999 ≤ℤ z
+  pub not_far_on : z ≤ℤ pos 1000000
+
+first_is_near : (k : DomainKind) → values_fit k ≡ true → FirstFits (first_of k)
+first_is_near kind.Bool fit = record { not_far_back = omega (arith, ints); not_far_on = omega (arith, ints) }
+first_is_near (kind.Range low high) fit =
+    let r = range_values low high fit in
+    record { not_far_back = r.not_far_back; not_far_on = omega (arith, ints, r.not_far_on, r.number, r.some) }
+first_is_near (kind.Words words) fit = record { not_far_back = omega (arith, ints); not_far_on = omega (arith, ints) }
+
+pub first_fits : (p : Parts) → Formed p → (d : ℕ) (domain : Domain) → slice_get p.domains d ≡ Some domain → (z : ℤ) → slice_get (values_in p.domains d) 0 ≡ Some z →
+    FirstFits z
+first_fits p f d domain at z first =
+    let P : ℤ → Type 0 = λ z. FirstFits z in
+    subst P (same_Some (first_of domain.kind) z (sym (first_at_zero p f d domain at) ∙ first)) (first_is_near domain.kind (domain_fits p f d domain at))
+
+-- the value of an index, from the first on
+pub value_from_first : (p : Parts) → Formed p → (d : ℕ) → d < length p.domains → (v : ℕ) → v < size_of p.domains d → (z : ℤ) → slice_get (values_in p.domains d) 0 ≡ Some z →
+    slice_get (values_in p.domains d) v ≡ Some (z +ℤ pos v)
+value_from_first p f d inside v below z first =
+    let domain = get_within p.domains d inside in
+    let same = same_Some (first_of domain.0.kind) z (sym (first_at_zero p f d domain.0 domain.1) ∙ first) in
+    value_of_index p.domains d domain.0 v domain.1 (omega (arith, below, size_at p.domains d domain.0 domain.1)) ∙ ap (λ z. Some (z +ℤ pos v)) same
+
+pub index_from_first : (p : Parts) → Formed p → (d : ℕ) → d < length p.domains → (v : ℕ) (x : ℤ) → v < size_of p.domains d → (z : ℤ) → slice_get (values_in p.domains d) 0 ≡ Some z → x ≡ z +ℤ pos v →
+    index_of (values_in p.domains d) x ≡ Some v
+index_from_first p f d inside v x below z first is =
+    let domain = get_within p.domains d inside in
+    let same = same_Some (first_of domain.0.kind) z (sym (first_at_zero p f d domain.0 domain.1) ∙ first) in
+    index_of_value p.domains d domain.0 v x domain.1 (omega (arith, below, size_at p.domains d domain.0 domain.1)) (is ∙ ap (λ z. z +ℤ pos v) (sym same))
+
+pub no_index_from_first : (p : Parts) → Formed p → (d : ℕ) → d < length p.domains → (x z : ℤ) → slice_get (values_in p.domains d) 0 ≡ Some z →
+    ((v : ℕ) → v < size_of p.domains d → x ≢ z +ℤ pos v) → index_of (values_in p.domains d) x ≡ None
+no_index_from_first p f d inside x z first other =
+    let domain = get_within p.domains d inside in
+    let same = same_Some (first_of domain.0.kind) z (sym (first_at_zero p f d domain.0 domain.1) ∙ first) in
+    no_index p.domains d domain.0 x domain.1
+    (λ v below is. other v (omega (arith, below, size_at p.domains d domain.0 domain.1)) (is ∙ ap (λ z. z +ℤ pos v) same))
