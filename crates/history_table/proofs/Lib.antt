@@ -2,5 +2,5 @@ mod Decodes
 mod Spellings
 mod LineRuns
 mod LineSteps
-mod Domains
 mod Arguments
+mod RowNumbers

@@ -1,5 +1,5 @@
 -- What the reader of a line goes by: the line that tokens are, found from the front.
-use Rattle.std.specs.Prelude.{◌≡◌, ◌<◌, ℕ, ℤ, pos, Bool, ◌==◌, length, map, find, position, slice_get, not, true, false, List, [], ◌∷◌, Option, None, Some, Result, Ok, Err}
+use Rattle.std.specs.Prelude.{◌≡◌, ◌<◌, ℕ, Bool, ◌==◌, length, map, find, position, not, true, false, List, [], ◌∷◌, Option, None, Some, Result, Ok, Err}
 use Rattle.std.specs.List.{list_any, flat_map}
 use Rattle.std.specs.Option.{option_map, option_and_then}
 use Rattle.trio_text.specs.declared.lexeme.Lexeme.{Lexeme}
@@ -7,9 +7,6 @@ use Rattle.trio_text.specs.declared.lexeme.Lexeme.TheVariants as lexeme
 use Rattle.trio_text.specs.declared.token.Reserved.TheVariants as reserved
 use Rattle.trio_text.specs.declared.token.Symbol.TheVariants as symbol
 use Rattle.trio_text.specs.declared.token.Token.{Token}
-use Rattle.trio_types.specs.declared.spec.Domain.{Domain}
-use Rattle.trio_types.specs.declared.spec.DomainKind.{DomainKind}
-use Rattle.trio_types.specs.declared.spec.DomainKind.TheVariants as domain_kind
 use Rattle.trio_types.specs.World.{World}
 use Rattle.trio_types.specs.Cells.{Row, rows_of}
 use Rattle.history_table.specs.declared.fault.HistFault.{HistFault}
@@ -141,19 +138,6 @@ joined found rows (Some row) = Err (fault.MissingRow row)
 -- the given history of lines without fault, or the first row without one
 abbrev pub joined_of : World → List Found → Result (List (Option ℕ)) HistFault
 joined_of world found = joined found (rows_of world) (position (λ row. not (has_row found row)) (rows_of world))
-
-abbrev pub first_of : DomainKind → ℤ
-first_of domain_kind.Bool = pos 0
-first_of (domain_kind.Range low high) = low
-first_of (domain_kind.Words words) = pos 0
-
-abbrev pub first_of_domain : Option Domain → ℤ
-first_of_domain None = pos 0
-first_of_domain (Some domain) = first_of domain.kind
-
--- the first value of the domain of this number
-abbrev pub first_in : List Domain → ℕ → ℤ
-first_in domains d = first_of_domain (slice_get domains d)
 
 -- this is the answer for these lines, or memory was wanting
 abbrev pub IsJoined : World → List Found → Result (List (Option ℕ)) HistFault → Type 0

@@ -1,5 +1,5 @@
 -- Which given histories and tables fit a specification, and which table extends a given history.
-use Rattle.std.specs.Prelude.{◌≡◌, ℕ, ◌+◌, Bool, true, ◌&&◌, nat_lt, ◌==◌, List, [], ◌∷◌, length, Option, None, Some, Result, Ok, Err, slice_get, position, is_none}
+use Rattle.std.specs.Prelude.{◌≡◌, ℕ, Bool, true, false, ◌&&◌, nat_lt, ◌==◌, List, [], ◌∷◌, length, Option, None, Some, position, is_none}
 use Rattle.std.specs.List.{list_all, zip}
 use Rattle.trio_types.specs.World.{World}
 use Rattle.trio_types.specs.Cells.{cells_of, cell_size}

@@ -71,14 +71,18 @@ fn add_cells(
     ensures { OnOk result (given.new.items ≡ given.old.items ++ cells_at found.now (row_of row.now)) }
 {
     match line_of_row(found, row) {
-        Some(line) => {
-            for cell in line.cells.as_slice() {
-                given.push(*cell)?;
-            }
-            Ok(())
-        }
+        Some(line) => append(given, line.cells.as_slice()),
         None => Ok(()),
     }
+}
+
+fn append(given: &mut Vec<Option<u16>>, cells: &[Option<u16>]) -> Result<(), AllocError>
+    ensures { OnOk result (given.new.items ≡ given.old.items ++ cells.now) }
+{
+    for cell in cells {
+        given.push(*cell)?;
+    }
+    Ok(())
 }
 
 /// The line that is this row.

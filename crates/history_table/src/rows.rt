@@ -1,10 +1,7 @@
 //! Which row a line names, and what its entries give the cells.
-ghost use Rattle.std.specs.Prelude.{◌≡◌, ◌<◌, length, slice_get, position, is_none, map, IfOk, pos, negsuc, ◌≤ℤ◌, ◌<ℤ◌, ◌+ℤ◌, MatchOption, IfSome};
+ghost use Rattle.std.specs.Prelude.{◌≡◌, ◌<◌, length, slice_get, position, is_none, map, IfOk, IfSome};
 ghost use Rattle.std.specs.Option.{option_and_then, option_map};
 ghost use Rattle.trio_types.specs.Verdict.{world_of};
-ghost use Rattle.trio_types.specs.World.{values_in};
-ghost use Rattle.trio_types.specs.Values.{index_of};
-ghost use Rattle.history_table.specs.Decoding.{first_in};
 ghost use Rattle.history_table.specs.Rows.{index_in, value_index, args_of, arg_indexes, item_named, named_row, domain_of_item, entry_cell, is_outside, known_index};
 ghost use Rattle.std.specs.Str.{bytes_eq};
 ghost use Rattle.history_table.specs.Decoding.{row_of};
@@ -13,7 +10,7 @@ ghost use Rattle.trio_types.specs.Cells.{rows_of};
 use crate::line::{Line, Value};
 use std::alloc::{AllocError, Global};
 use trio_base::{List, Name};
-use trio_types::{DomainKind, Ids, Item, Spec, cell_count, cell_parts, size_of};
+use trio_types::{DomainKind, Ids, Item, Spec, cell_count, cell_parts, index_of};
 
 /// A row: the number of its item, and the indexes of its arguments' values.
 #[derive(Debug, Drop)]
@@ -31,19 +28,19 @@ fn word_index(words: &[Name], name: &str) -> Option<usize>
 }
 
 /// The index of a written value in the domain of this number.
-fn value_index(spec: &Spec, domain: u32, value: &Value) -> Option<u16>
+fn value_index(spec: &Spec, domain: u32, value: &Value) -> Option<u32>
     requires { domain < length spec.now.domains }
     ensures { result ≡ value_index (world_of spec.now) domain value.now }
 {
     match (&spec.domains.get(domain as usize).kind, value) {
         (DomainKind::Words(words), Value::Word(name)) => {
             let place = word_index(words.as_slice(), name.as_str())?;
-            Some(place as u16)
+            Some(place as u32)
         }
         (DomainKind::Words(_), _) => None,
         (_, Value::Number(number)) => index_of(spec, domain, i64::from(*number)),
         (_, Value::Opposite(number)) => index_of(spec, domain, -i64::from(*number)),
-        (DomainKind::Bool, Value::Truth(value)) => Some(u16::from(*value)),
+        (DomainKind::Bool, Value::Truth(value)) => Some(u32::from(*value)),
         _ => None,
     }
 }
@@ -67,7 +64,7 @@ fn arg_indexes(
         let Some(index) = value_index(spec, domains[place], &values[place]) else {
             return Ok(None);
         };
-        indexes.push(u32::from(index))?;
+        indexes.push(index)?;
     }
     Ok(Some(List::from_vec(indexes)))
 }
@@ -108,15 +105,30 @@ pub fn all_rows(alloc: Global, spec: &Spec) -> Result<List<RowParts>, AllocError
     ensures { IfOk result (λ rows. map row_of rows ≡ rows_of (world_of spec.now)) }
 {
     let mut rows = Vec::new(alloc);
-    for row in 0..cell_count(spec) / spec.instants {
-        let cell = cell_parts(spec, row * spec.instants);
-        let args = List::from_slice(alloc, &cell.args[..cell.arity as usize])?;
-        rows.push(RowParts {
-            item: cell.item,
-            args,
-        })?;
+    for row in 0..row_count(spec) {
+        rows.push(row_parts(alloc, spec, row)?)?;
     }
     Ok(List::from_vec(rows))
+}
+
+/// How many rows there are.
+fn row_count(spec: &Spec) -> u32
+    ensures { result ≡ length (rows_of (world_of spec.now)) }
+{
+    cell_count(spec) / spec.instants
+}
+
+/// The row of this number.
+pub fn row_parts(alloc: Global, spec: &Spec, row: u32) -> Result<RowParts, AllocError>
+    requires { row < length (rows_of (world_of spec.now)) }
+    ensures { IfOk result (λ parts. slice_get (rows_of (world_of spec.now)) row ≡ Some (row_of parts)) }
+{
+    let cell = cell_parts(spec, row * spec.instants);
+    let args = List::from_slice(alloc, &cell.args[..cell.arity as usize])?;
+    Ok(RowParts {
+        item: cell.item,
+        args,
+    })
 }
 
 impl RowParts {
@@ -141,7 +153,8 @@ fn entry_cell(spec: &Spec, item: u32, entry: &Option<Value>) -> Option<Option<u1
         None => Some(None),
         Some(value) => {
             let domain = spec.items.get(item as usize).value;
-            Some(Some(value_index(spec, domain, value)?))
+            let index = value_index(spec, domain, value)?;
+            Some(Some(index as u16))
         }
     }
 }
@@ -171,47 +184,4 @@ pub fn known_cells(
         cells.push(entry_cell(spec, item, entry).flatten())?;
     }
     Ok(List::from_vec(cells))
-}
-
-/// The first value of the domain of this number: the least number of a range, and 0 else.
-fn first_value(spec: &Spec, domain: u32) -> i64
-    requires { domain < length spec.now.domains }
-    ensures is { result ≡ first_in spec.now.domains domain }
-    ensures not_far_back { negsuc 999999 ≤ℤ result }
-    ensures not_far_on { result ≤ℤ pos 1000000 }
-{
-    match &spec.domains.get(domain as usize).kind {
-        DomainKind::Bool | DomainKind::Words(_) => 0,
-        DomainKind::Range(low, _) => *low,
-    }
-}
-
-/// How far a number stands behind the first value; none where it stands before it.
-fn behind_first(first: i64, number: i64) -> Option<u64>
-    requires first_back { negsuc 999999 ≤ℤ first }
-    requires first_on { first ≤ℤ pos 1000000 }
-    requires back { negsuc 4294967295 ≤ℤ number }
-    requires on { number ≤ℤ pos 4294967296 }
-    ensures { MatchOption result (number <ℤ first) (λ place. number ≡ first +ℤ pos place) }
-{
-    if number < first {
-        None
-    } else {
-        Some((number - first) as u64)
-    }
-}
-
-/// The index of a number among the values of the domain of this number.
-fn index_of(spec: &Spec, domain: u32, number: i64) -> Option<u16>
-    requires there { domain < length spec.now.domains }
-    requires back { negsuc 4294967295 ≤ℤ number }
-    requires on { number ≤ℤ pos 4294967296 }
-    ensures { result ≡ index_of (values_in spec.now.domains domain) number }
-{
-    let place = behind_first(first_value(spec, domain), number)?;
-    if place < u64::from(size_of(spec, domain)) {
-        Some(place as u16)
-    } else {
-        None
-    }
 }

@@ -51,7 +51,7 @@ loop-place-preserved c =
     let at_value = slice_get_read values (length values) place v refl (omega (arith, c.loop-place-test.true, c.if-domains-values.false)) c.index-values-place.is in
     found_index w ds values found place (get_or ds place 0) v c.in-Some.index at at_value c.loop-place.invariant (sym c.value_index.ensures ∙ c.in-Some.is)
     ∙ ap (λ is. behind is (arg_indexes w (drop (place + 1) ds) (drop (place + 1) values)))
-    (ap (λ i. found ++ i ∷ []) (sym c.from.ensures) ∙ sym c.in_ok-push.ensures.items)
+    (sym c.in_ok-push.ensures.items)
 
 pub returns : goal.returns
 returns c =
