@@ -4,3 +4,5 @@ mod LineRuns
 mod LineSteps
 mod Arguments
 mod RowNumbers
+mod Fits
+mod Answered

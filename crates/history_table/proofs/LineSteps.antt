@@ -155,6 +155,7 @@ history_is world lines found are none =
         if_whole world lines o ≡ joined found (rows_of world) o
     step None e = ap Ok e
     step (Some row) e = refl
+
     go : have_row world lines ≡ has_row found → row_cells world lines ≡ cells_at found → if_sound world lines None ≡ joined_of world found
     go e f =
         ap (λ test. if_whole world lines (position (λ row. not (test row)) (rows_of world))) e
@@ -164,3 +165,7 @@ history_is world lines found are none =
 pub passed_on : {A : Type 0} (Q : HistFault → Type 0) (r : Result A HistFault) (f : HistFault) → IsErrAnd r (λ g. g ≡ f) → Q f → IfErr r Q
 passed_on Q (Ok x) f same q = tt
 passed_on Q (Err g) f same q = subst Q (sym same) q
+
+pub passed_answer : {A : Type 0} (Q : Result A HistFault → Type 0) (r : Result A HistFault) (f : HistFault) → IsErrAnd r (λ g. g ≡ f) → Q (Err f) → Q r
+passed_answer Q (Ok x) f same q = absurd same
+passed_answer Q (Err g) f same q = subst (λ h. Q (Err h)) (sym same) q

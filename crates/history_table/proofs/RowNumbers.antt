@@ -14,18 +14,18 @@ use Rattle.trio_types.specs.declared.spec.DomainKind.TheVariants as kind
 use Rattle.trio_types.specs.declared.spec.Domain.{Domain}
 use Rattle.trio_types.specs.declared.spec.Spec.{Spec}
 use Rattle.trio_types.specs.declared.spec.Which.TheVariants as which
-use Rattle.trio_types.specs.World.{World, values_of}
+use Rattle.trio_types.specs.World.{World, values_of, values_in}
 use Rattle.trio_types.specs.Values.{index_of}
 use Rattle.trio_types.specs.Cells.{Row, Cell, the_cell, rows_of, cells_of}
 use Rattle.trio_types.specs.Verdict.{parts_of, world_of}
-use Rattle.trio_types.proofs.Specs.{formed, some_instant, some_value, within_limit}
-use Rattle.trio_types.proofs.CellNumbers.{cell_at, cell_count_is, few_rows as rows_few}
-use Rattle.trio_types.proofs.Domains.{count_of_values, values_are, length-integers, first_of}
+use Rattle.trio_types.proofs.Specs.{formed, some_instant, within_limit}
+use Rattle.trio_types.proofs.CellNumbers.{cell_at, cell_count_is, few_rows as rows_few, small_size}
+use Rattle.trio_types.proofs.Domains.{length-integers}
 use Rattle.history_table.specs.declared.line.Value.{Value}
 use Rattle.history_table.specs.declared.line.Value.TheVariants as written
 use Rattle.history_table.specs.declared.rows.RowParts.{RowParts}
 use Rattle.history_table.specs.declared.lines.Found.{Found}
-use Rattle.history_table.specs.Rows.{index_in, value_index}
+use Rattle.history_table.specs.Rows.{index_in, index_in_domain, value_index}
 use Rattle.history_table.specs.Decoding.{row_of, cells_at, has_row, joined, joined_of}
 use Rattle.history_table.specs.declared.fault.HistFault.{HistFault}
 use Rattle.history_table.specs.declared.fault.HistFault.TheVariants as fault
@@ -77,33 +77,38 @@ gather_more found rows i row given now less is before more =
     ∙ ap (flat_map (λ r. cells_at found (row_of r))) (sym (take_more rows i row less))
 
 -- an index is below the number of values
-number_small : (values : DomainKind) (z : ℤ) (k : ℕ) → count_of_values values ≤ 64 → index_of (values_of values) z ≡ Some k → k < 65536
+number_within : (values : List ℤ) (z : ℤ) (k : ℕ) → index_of values z ≡ Some k → k < length values
 unfolding index_of
-number_small values z k few is =
-    let within = (position-Some (int_eq z) (values_of values) k (pos 0) is).0 in
-    let whole = ap length (values_are values) ∙ length-integers (first_of values) (count_of_values values) in
-    omega (arith, within, whole, few)
+number_within values z k is = (position-Some (int_eq z) values k (pos 0) is).0
 
-index_small : (values : DomainKind) (v : Value) (k : ℕ) → count_of_values values ≤ 64 → index_in values v ≡ Some k → k < 65536
-index_small kind.Bool (written.Number n) k few is = number_small kind.Bool (pos n) k few is
-index_small kind.Bool (written.Opposite n) k few is = number_small kind.Bool (neg_ℤ (pos n)) k few is
-index_small kind.Bool (written.Truth true) k few is = let e = same_Some 1 k is in omega (arith, e)
-index_small kind.Bool (written.Truth false) k few is = let e = same_Some 0 k is in omega (arith, e)
-index_small kind.Bool (written.Word name) k few is = cc
-index_small (kind.Range low high) (written.Number n) k few is = number_small (kind.Range low high) (pos n) k few is
-index_small (kind.Range low high) (written.Opposite n) k few is = number_small (kind.Range low high) (neg_ℤ (pos n)) k few is
-index_small (kind.Range low high) (written.Truth b) k few is = cc
-index_small (kind.Range low high) (written.Word name) k few is = cc
-index_small (kind.Words words) (written.Word name) k few is =
-    let within = (position-Some (λ word. bytes_eq word name) words k [] is).0 in omega (arith, within, few)
-index_small (kind.Words words) (written.Number n) k few is = cc
-index_small (kind.Words words) (written.Opposite n) k few is = cc
-index_small (kind.Words words) (written.Truth b) k few is = cc
+index_within : (values : DomainKind) (v : Value) (k : ℕ) → index_in values v ≡ Some k → k < length (values_of values)
+index_within kind.Bool (written.Number n) k is = number_within (values_of kind.Bool) (pos n) k is
+index_within kind.Bool (written.Opposite n) k is = number_within (values_of kind.Bool) (neg_ℤ (pos n)) k is
+index_within kind.Bool (written.Truth true) k is = let e = same_Some 1 k is in omega (arith, e, length-integers (pos 0) 2)
+index_within kind.Bool (written.Truth false) k is = let e = same_Some 0 k is in omega (arith, e, length-integers (pos 0) 2)
+index_within kind.Bool (written.Word name) k is = cc
+index_within (kind.Range low high) (written.Number n) k is = number_within (values_of (kind.Range low high)) (pos n) k is
+index_within (kind.Range low high) (written.Opposite n) k is = number_within (values_of (kind.Range low high)) (neg_ℤ (pos n)) k is
+index_within (kind.Range low high) (written.Truth b) k is = cc
+index_within (kind.Range low high) (written.Word name) k is = cc
+index_within (kind.Words words) (written.Word name) k is =
+    let within = (position-Some (λ word. bytes_eq word name) words k [] is).0 in omega (arith, within, length-integers (pos 0) (length words))
+index_within (kind.Words words) (written.Number n) k is = cc
+index_within (kind.Words words) (written.Opposite n) k is = cc
+index_within (kind.Words words) (written.Truth b) k is = cc
+
+pub value_index_within : (w : World) (d : ℕ) (v : Value) (k : ℕ) → value_index w d v ≡ Some k → k < length (values_in w.domains d)
+value_index_within w d v k is = go (slice_get w.domains d) refl
+  where
+    go : (o : Option Domain) → slice_get w.domains d ≡ o → k < length (values_in w.domains d)
+    go None at = let no : ◌≡◌ {A = Option ℕ} None (Some k) = sym (ap (λ o. index_in_domain o v) at) ∙ is in cc
+    go (Some domain) at = rw at (index_within domain.kind v k (sym (ap (λ o. index_in_domain o v) at) ∙ is))
 
 pub value_index_small : (spec : Spec) (d : ℕ) (v : Value) (k : ℕ) → d < length spec.domains → value_index (world_of spec) d v ≡ Some k → k < 65536
 value_index_small spec d v k inside is =
-    let t = there spec.domains d inside in
-    index_small t.0.kind v k (some_value (parts_of spec) (formed spec) d t.0 t.1).1 (rw t.1 at is)
+    let within = value_index_within (world_of spec) d v k is in
+    let few = small_size (parts_of spec) (formed spec) d inside in
+    omega (arith, within, few)
 
 -- what is looked for in a list of rows, and in the list of what they are
 position-map : {A B : Type 0} (f : A → B) (p : B → Bool) (xs : List A) → position p (map f xs) ≡ position (λ x. p (f x)) xs

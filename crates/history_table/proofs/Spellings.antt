@@ -137,9 +137,11 @@ with_entries_forth name args (lexeme.Sign symbol.Colon ∷ x) line is = go (entr
         (line.name ≡ name) × (line.args ≡ args) × (lexeme.Sign symbol.Colon ∷ x ≡ lexeme.Sign symbol.Colon ∷ flat_map entry_tokens line.entries)
     go None e is = cc
     go (Some es) e is =
-        let q : record { name = name; args = args; entries = es } ≡ line = same_Some _ _ is in
-        (sym (ap (λ (l : Line). l.name) q), sym (ap (λ (l : Line). l.args) q),
-         ap (λ z. lexeme.Sign symbol.Colon ∷ z) (entries_forth x es e ∙ ap (λ (l : Line). flat_map entry_tokens l.entries) q))
+        let q : record { name = name; args = args; entries = es } ≡ line = same_Some _ _ is in (
+          sym (ap (λ (l : Line). l.name) q),
+          sym (ap (λ (l : Line). l.args) q),
+          ap (λ z. lexeme.Sign symbol.Colon ∷ z) (entries_forth x es e ∙ ap (λ (l : Line). flat_map entry_tokens l.entries) q),
+        )
 with_entries_forth name args x line is = cc
 
 pub line_forth : (x : List Lexeme) (line : Line) → line_of x ≡ Some line → x ≡ line_tokens line

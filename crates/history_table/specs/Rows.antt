@@ -23,7 +23,7 @@ index_in kind.Bool (written.Truth false) = Some 0
 index_in kind.Bool (written.Truth true) = Some 1
 index_in values value = None
 
-abbrev index_in_domain : Option Domain → Value → Option ℕ
+abbrev pub index_in_domain : Option Domain → Value → Option ℕ
 index_in_domain None value = None
 index_in_domain (Some domain) value = index_in domain.kind value
 
@@ -57,23 +57,19 @@ named_row world line = option_and_then (row_of_item world line) (item_named worl
 abbrev pub same_row : Row → Row → Bool
 same_row a b = a.item == b.item && bytes_eq a.args b.args
 
--- what an entry gives a cell of this domain: nothing known, or an index; none where it is neither `?` nor in the domain
+abbrev pub index_for : World → Option Item → Value → Option ℕ
+index_for world None value = None
+index_for world (Some item) value = value_index world item.value value
+
+-- what an entry gives a cell of the item of this number: nothing known, or an index; none where it is neither `?` nor in the domain
 abbrev pub entry_cell : World → ℕ → Option Value → Option (Option ℕ)
-entry_cell world d None = Some None
-entry_cell world d (Some value) = option_map Some (value_index world d value)
-
-abbrev pub value_domain : Option Item → ℕ
-value_domain None = 0
-value_domain (Some item) = item.value
-
--- the domain of an item's values
-abbrev pub domain_of_item : World → ℕ → ℕ
-domain_of_item world item = value_domain (slice_get world.items item)
+entry_cell world item None = Some None
+entry_cell world item (Some value) = option_map Some (index_for world (slice_get world.items item) value)
 
 -- the entry is neither `?` nor in the domain of the item's values
 abbrev pub is_outside : World → ℕ → Option Value → Bool
-is_outside world item entry = is_none (entry_cell world (domain_of_item world item) entry)
+is_outside world item entry = is_none (entry_cell world item entry)
 
 -- the index that an entry gives a cell of the item, where it is known
 abbrev pub known_index : World → ℕ → Option Value → Option ℕ
-known_index world item entry = option_and_then (λ index. index) (entry_cell world (domain_of_item world item) entry)
+known_index world item entry = option_and_then (λ index. index) (entry_cell world item entry)

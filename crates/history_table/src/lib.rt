@@ -12,6 +12,6 @@ mod table;
 
 pub use fault::HistFault;
 pub use given::Given;
-pub use reader::read_history;
 pub use line::{Line, Lines, Value, Values};
+pub use reader::read_history;
 pub use table::Table;

@@ -32,7 +32,11 @@ pub fn line(alloc: Global, lexemes: &[Lexeme]) -> Result<Option<Line>, AllocErro
     let Some(entries) = cursor.entries(alloc)? else {
         return Ok(None);
     };
-    Ok(Some(Line { name, args, entries }))
+    Ok(Some(Line {
+        name,
+        args,
+        entries,
+    }))
 }
 
 impl Cursor<'_> {

@@ -2,7 +2,7 @@
 ghost use Rattle.std.specs.Prelude.{◌≡◌, ◌<◌, length, slice_get, position, is_none, map, IfOk, IfSome};
 ghost use Rattle.std.specs.Option.{option_and_then, option_map};
 ghost use Rattle.trio_types.specs.Verdict.{world_of};
-ghost use Rattle.history_table.specs.Rows.{index_in, value_index, args_of, arg_indexes, item_named, named_row, domain_of_item, entry_cell, is_outside, known_index};
+ghost use Rattle.history_table.specs.Rows.{index_in, value_index, args_of, arg_indexes, item_named, named_row, entry_cell, is_outside, known_index};
 ghost use Rattle.std.specs.Str.{bytes_eq};
 ghost use Rattle.history_table.specs.Decoding.{row_of};
 ghost use Rattle.trio_types.specs.Cells.{rows_of};
@@ -147,7 +147,7 @@ impl RowParts {
 /// What an entry gives a cell of the item of this number: nothing known, or an index; none where it is neither `?` nor in the domain.
 fn entry_cell(spec: &Spec, item: u32, entry: &Option<Value>) -> Option<Option<u16>>
     requires { item < length spec.now.items }
-    ensures { result ≡ entry_cell (world_of spec.now) (domain_of_item (world_of spec.now) item) entry.now }
+    ensures { result ≡ entry_cell (world_of spec.now) item entry.now }
 {
     match entry {
         None => Some(None),

@@ -28,8 +28,7 @@ loop-first-preserved c =
     let found = c.loop-first.found.items in
     let after = c.split_at-in-Some.result.1.now in
     let behind = c.split_at.result.1.now in
-    let run = is_run c.loop-first.tokens_left.now c.loop-first.lexemes_left.now first c.run_length-count.result c.loop-first.invariant.1 c.in-Some.ensures.value c.run_length-count.ensures.count in
-    (
+    let run = is_run c.loop-first.tokens_left.now c.loop-first.lexemes_left.now first c.run_length-count.result c.loop-first.invariant.1 c.in-Some.ensures.value c.run_length-count.ensures.count in (
       subst (Behind world all (lines_by after behind)) (sym c.in_ok-append.ensures)
           (found_line world all c.loop-first.tokens_left.now after c.loop-first.lexemes_left.now here behind first c.run_length-count.result c.in_ok-line.line found
           c.loop-first.invariant.0 run c.split_at.ensures.front c.split_at-in-Some.ensures.back c.split_at.ensures.back c.in_ok-line.ensures.found

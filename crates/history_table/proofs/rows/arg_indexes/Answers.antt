@@ -23,7 +23,7 @@ pub value_index-requires : goal.value_index-requires
 value_index-requires c =
     let at = slice_get-get_or c.as_slice-domains.result.now c.loop-place.place 0 c.loop-place-test.true in
     let d = argument_domain (parts_of c.args.spec.now) (formed c.args.spec.now) c.args.item c.get.result.now c.get.ensures c.loop-place.place _
-        (ap (λ ds. slice_get ds c.loop-place.place) (sym c.as_slice-domains.ensures) ∙ at) in
+    (ap (λ ds. slice_get ds c.loop-place.place) (sym c.as_slice-domains.ensures) ∙ at) in
     slice_get_within c.args.spec.now.domains _ d.0 d.1
 
 pub returns-in_default : goal.returns-in_default

@@ -1,4 +1,4 @@
-use Rattle.std.proofs.Common.{◌≡◌, sym}
+use Rattle.std.proofs.Common.{◌≡◌, sym, arith}
 use Rattle.std.proofs.lemmas.Option.{slice_get_within}
 use Rattle.trio_types.specs.Verdict.{parts_of}
 use Rattle.trio_types.proofs.Specs.{formed, value_domain}
@@ -13,5 +13,7 @@ value_index-requires c =
 pub overflow_cast-result : goal.overflow_cast-result
 overflow_cast-result c =
     let d = value_domain (parts_of c.args.spec.now) (formed c.args.spec.now) c.args.item c.get.result.now c.get.ensures in
+    let small =
     value_index_small c.args.spec.now c.get.result.now.value c.in-Some.value c.in_ok-index-in-Some.index (slice_get_within c.args.spec.now.domains c.get.result.now.value d.0 d.1)
-    (sym c.in_ok-index-in-Some.ensures)
+    (sym c.in_ok-index-in-Some.ensures) in
+    omega (arith, small)
