@@ -6,3 +6,5 @@ mod Arguments
 mod RowNumbers
 mod Fits
 mod Answered
+mod PrintedValues
+mod Whole

@@ -4,3 +4,4 @@ pub mod Rows
 pub mod History
 pub mod Decoding
 pub mod Fitting
+pub mod Printed

@@ -1,5 +1,8 @@
 //! Given histories.
-ghost use Rattle.std.specs.Prelude.{◌≡◌, [], ◌∷◌, ◌++◌, ◌<◌, length, slice_get, slice_set, OnOk, OnErr, IfErr, MatchOption};
+ghost use Rattle.std.specs.Prelude.{◌≡◌, [], ◌∷◌, ◌++◌, ◌<◌, length, slice_get, slice_set, OnOk, OnErr, IfErr, IfSome, MatchOption, map, Some, ◌^◌};
+ghost use Rattle.history_table.specs.Fitting.{first_unknown};
+
+use crate::table::Table;
 
 use std::alloc::{AllocError, Global};
 use std::marker::Model;
@@ -83,4 +86,32 @@ impl Given {
     {
         self.indexes.as_slice()
     }
+
+    /// Writes the indexes into a table of the same length, where each is known; else answers the first cell whose value is not, and then
+    /// the table is as before. It takes no memory.
+    pub fn whole(&self, into: &mut Table) -> Result<(), u32>
+        requires same { length into.old ≡ length self.now }
+        requires few { length self.now < 2 ^ 32 }
+        ensures ok { OnOk result (self.now ≡ map Some into.new) }
+        ensures unknown { IfErr result (λ cell. first_unknown self.now ≡ Some cell) }
+        ensures stays { OnErr result (into.new ≡ into.old) }
+    {
+        if let Some(cell) = first_unknown(self.as_slice()) {
+            return Err(cell as u32);
+        }
+        for (cell, index) in self.as_slice().iter().enumerate() {
+            if let Some(index) = *index {
+                into.set(cell, index);
+            }
+        }
+        Ok(())
+    }
+}
+
+/// The first cell whose value is not known.
+fn first_unknown(given: &[Option<u16>]) -> Option<usize>
+    ensures is { result ≡ first_unknown given.now }
+    ensures within { IfSome result (λ cell. cell < length given.now) }
+{
+    given.iter().position(|index| index.is_none())
 }

@@ -5,6 +5,7 @@ mod fault;
 mod given;
 mod line;
 mod lines;
+mod printing;
 mod reader;
 mod reading;
 mod rows;
