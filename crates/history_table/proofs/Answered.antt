@@ -1,10 +1,10 @@
 -- From the lines of a text to its answer.
-use Rattle.std.proofs.Common.{◌≡◌, ℕ, ◌+◌, List, [], ◌∷◌, ◌++◌, refl, sym, ap, ◌∙◌, true, false, Bool, not, ◌==◌, Option, None, Some, Result, Ok, Err, map, length, position, if◌then◌else◌, option_map, IfOk, subst}
+use Rattle.std.proofs.Common.{◌≡◌, ◌≢◌, ◌⊎◌, inl, inr, ℕ, ◌+◌, List, [], ◌∷◌, ◌++◌, refl, sym, ap, ◌∙◌, true, false, Bool, not, ◌==◌, Option, None, Some, Result, Ok, Err, map, length, position, if◌then◌else◌, option_map, IfOk, subst}
 use Rattle.std.proofs.lemmas.Option.{same_Some}
 use Rattle.trio_text.specs.declared.token.Token.{Token}
 use Rattle.trio_text.specs.declared.lexeme.Lexeme.{Lexeme}
 use Rattle.trio_text.specs.Lexemes.{lexemes_of}
-use Rattle.trio_text.specs.Tokens.{IsTokens, AreTokens}
+use Rattle.trio_text.specs.Tokens.{IsTokens, IsLexFault}
 use Rattle.trio_types.specs.World.{World}
 use Rattle.trio_types.specs.Cells.{Row, rows_of}
 use Rattle.history_table.specs.declared.fault.HistFault.{HistFault}
@@ -14,7 +14,7 @@ use Rattle.history_table.specs.declared.lines.Found.{Found}
 use Rattle.history_table.specs.Spelled.{Reads}
 use Rattle.history_table.specs.Lines.{Numbered, Placed, lines_of, AreRead}
 use Rattle.history_table.specs.Rows.{named_row, is_outside}
-use Rattle.history_table.specs.History.{row_fault, read_fault, have_row, line_fault, lines_fault, first_of, missing_row, history_of, if_sound, if_whole, Says, IsHistoryAnswer}
+use Rattle.history_table.specs.History.{row_fault, read_fault, have_row, line_fault, lines_fault, first_of, missing_row, history_of, if_sound, if_whole, Says, IsHistoryAnswer, OneHistory}
 use Rattle.history_table.specs.Fitting.{IsGiven}
 use Rattle.history_table.specs.Decoding.{line_of, lines_by, placed_of, AreFound, IsFault, joined, joined_of, has_row, IsJoined}
 use Rattle.history_table.proofs.Spellings.{reads_line, reads_once}
@@ -126,3 +126,37 @@ whole w text tokens lexemes found r lexed said are none is = go r is
     go (Err (fault.TwiceRow n)) e = (at (Err (fault.TwiceRow n)) e, tt)
     go (Err (fault.Length n)) e = (at (Err (fault.Length n)) e, tt)
     go (Err (fault.Value n k)) e = (at (Err (fault.Value n k)) e, tt)
+
+-- an answer of bytes, or of lines
+told : (w : World) (text : List ℕ) (a : Result (List (Option ℕ)) HistFault) → a ≢ Err fault.Memory → IsHistoryAnswer w text a →
+    ((place : ℕ) × (a ≡ Err (fault.Lex place)) × IsLexFault text place) ⊎ Says w text a
+told w text (Ok given) some is = inr is
+told w text (Err (fault.Lex place)) some is = inl (place, refl, is)
+told w text (Err (fault.Syntax line)) some is = inr is
+told w text (Err (fault.UnknownRow line)) some is = inr is
+told w text (Err (fault.TwiceRow line)) some is = inr is
+told w text (Err (fault.Length line)) some is = inr is
+told w text (Err (fault.Value line column)) some is = inr is
+told w text (Err (fault.MissingRow row)) some is = inr is
+told w text (Err fault.Memory) some is = absurd (some refl)
+
+-- what is known of tokens: they are one list, a fault of bytes is one, and there is one of the two at most
+module _ (one_list : (text : List ℕ) (tokens others : List Token) → IsTokens text tokens → IsTokens text others → tokens ≡ others)
+    (one_fault : (text : List ℕ) (place other : ℕ) → IsLexFault text place → IsLexFault text other → place ≡ other)
+    (apart : (text : List ℕ) (place : ℕ) (tokens : List Token) → IsLexFault text place → IsTokens text tokens → ⊥) where
+  said : (w : World) (text : List ℕ) (a b : Result (List (Option ℕ)) HistFault) → Says w text a → Says w text b → a ≡ b
+  said w text a b x y =
+      sym x.answered ∙ ap (history_of w) (sym (read_once (lines_of text x.tokens) x.lines x.read))
+      ∙ ap (λ ts. history_of w (placed_of (lines_of text ts))) (one_list text x.tokens y.tokens x.lexed y.lexed)
+      ∙ ap (history_of w) (read_once (lines_of text y.tokens) y.lines y.read) ∙ y.answered
+
+  one_told : (w : World) (text : List ℕ) (a b : Result (List (Option ℕ)) HistFault) →
+      ((place : ℕ) × (a ≡ Err (fault.Lex place)) × IsLexFault text place) ⊎ Says w text a →
+      ((place : ℕ) × (b ≡ Err (fault.Lex place)) × IsLexFault text place) ⊎ Says w text b → a ≡ b
+  one_told w text a b (inl x) (inl y) = x.1 ∙ ap (λ place. Err (fault.Lex place)) (one_fault text x.0 y.0 x.2 y.2) ∙ sym y.1
+  one_told w text a b (inl x) (inr y) = absurd (apart text x.0 y.tokens x.2 y.lexed)
+  one_told w text a b (inr x) (inl y) = absurd (apart text y.0 x.tokens y.2 x.lexed)
+  one_told w text a b (inr x) (inr y) = said w text a b x y
+
+  pub one_history : OneHistory
+  one_history w text a b some other x y = one_told w text a b (told w text a some x) (told w text b other y)

@@ -1,5 +1,5 @@
 -- Which given history a text is, or its first fault.
-use Rattle.std.specs.Prelude.{◌≡◌, ℕ, ◌+◌, Bool, not, false, ◌==◌, is_none, if◌then◌else◌, List, [], ◌∷◌, ◌++◌, length, map, find, position, Option, None, Some, Result, Ok, Err}
+use Rattle.std.specs.Prelude.{◌≡◌, ◌≢◌, ℕ, ◌+◌, Bool, not, false, ◌==◌, is_none, if◌then◌else◌, List, [], ◌∷◌, ◌++◌, length, map, find, position, Option, None, Some, Result, Ok, Err}
 use Rattle.std.specs.List.{list_any, flat_map}
 use Rattle.std.specs.Option.{option_map, option_and_then}
 use Rattle.trio_text.specs.declared.token.Token.{Token}
@@ -101,3 +101,8 @@ abbrev pub IsHistoryAnswer : World → List ℕ → Result (List (Option ℕ)) H
 IsHistoryAnswer world text (Ok given) = IsGivenText world text given
 IsHistoryAnswer world text (Err fault.Memory) = Unit {0}
 IsHistoryAnswer world text (Err f) = HasHistFault world text f
+
+-- a text has one answer at most: one given history, or one fault and then no history
+abbrev pub OneHistory : Type 0
+OneHistory = (world : World) (text : List ℕ) (a b : Result (List (Option ℕ)) HistFault) → a ≢ Err fault.Memory → b ≢ Err fault.Memory →
+    IsHistoryAnswer world text a → IsHistoryAnswer world text b → a ≡ b

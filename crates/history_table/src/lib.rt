@@ -3,6 +3,7 @@
 
 mod fault;
 mod given;
+mod laws;
 mod line;
 mod lines;
 mod printing;
@@ -13,6 +14,8 @@ mod table;
 
 pub use fault::HistFault;
 pub use given::Given;
+pub use laws::text_has_one_history;
 pub use line::{Line, Lines, Value, Values};
+pub use printing::row_name;
 pub use reader::read_history;
 pub use table::Table;
