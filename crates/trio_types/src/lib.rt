@@ -3,10 +3,11 @@
 
 mod cells;
 mod formula;
-pub mod laws;
 mod spec;
 
-pub use cells::{cell_count, cell_of, size_of};
-pub use formula::{FarOp, Formula, Formulas, SignedTerm, SignedTerms, Term, Terms};
-pub use spec::{Axiom, Axioms, Domain, DomainKind, Domains, Goal, Ids, Item, Items, Spec};
-pub use trio_base::{Bytes, List, Name};
+pub use cells::CellParts;
+pub use formula::{Formula, Formulas, SignedTerm, SignedTerms, Term, Terms};
+pub use spec::{
+    Axiom, Axioms, Domain, DomainKind, Domains, Goal, Ids, Item, Items, Names, Spec, Which,
+};
+pub use trio_base::{Bytes, Ends, FarOp, List, Name, OneOp, PairOp, Rel};
