@@ -14,4 +14,4 @@ pub use place::{earlier, unless};
 pub use scope::Scope;
 pub use twice::first_repeated;
 pub use unknown::{first_unknown, is_variable};
-pub use walk::{Binder, Role, Rule, first_in, first_in_claims, first_in_term};
+pub use walk::{Binder, Role, Rule, first_in, first_in_claims, first_in_term, level_of};

@@ -78,11 +78,18 @@ impl<'a> Names<'a> {
         ensures { OnOk result (Reads self.old self.new (Domain domain.now ∷ [])) }
     {
         self.note(&domain.name, Meaning::Domain(self.domains))?;
-        if let ValuesTree::Words(words) = &domain.values {
-            self.words(self.domains, words.as_slice())?;
-        }
+        self.values(self.domains, &domain.values)?;
         self.domains = next(self.domains)?;
         Ok(())
+    }
+
+    fn values(&mut self, domain: u32, values: &'a ValuesTree) -> Result<(), AllocError>
+        ensures { OnOk result (Adds self.old self.new (words_of domain values.now)) }
+    {
+        match values {
+            ValuesTree::Range(_, _) => Ok(()),
+            ValuesTree::Words(words) => self.words(domain, words.as_slice()),
+        }
     }
 
     fn words(&mut self, domain: u32, words: &'a [Mention]) -> Result<(), AllocError>

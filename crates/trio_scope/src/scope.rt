@@ -19,7 +19,7 @@ pub struct Scope<'a> {
 impl<'a> Scope<'a> {
     ghost use Rattle.std.specs.Prelude.{◌≡◌, ◌+◌, ◌<◌, ◌^◌, length, IfOk, [], ◌∷◌};
     ghost use Rattle.trio_scope.specs.Places.{least};
-    ghost use Rattle.trio_scope.specs.Names.{declarations, domains_in, items_in, declared_of, repeated_behind};
+    ghost use Rattle.trio_scope.specs.Names.{declarations, domains_in, items_in, declared_of, is_declared, repeated_behind};
 
     /// The names that a tree declares; only want of memory refuses it, or more domains, items or words than are numbered.
     pub fn new(alloc: Global, tree: &'a SpecTree) -> Result<Scope<'a>, AllocError>
@@ -36,6 +36,13 @@ impl<'a> Scope<'a> {
         ensures { result ≡ declared_of (declarations self.now.tree.now) name.now }
     {
         self.names.declared(name.as_str())
+    }
+
+    /// Whether a name is declared.
+    pub fn is_declared(&self, name: &Name) -> bool
+        ensures { result ≡ is_declared (declarations self.now.tree.now) name.now }
+    {
+        self.declared(name).is_some()
     }
 
     /// How many domains there are, `bool` among them.

@@ -58,10 +58,7 @@ impl Rule for Single<'_> {
         variable: &Mention,
         _domain: &RefTree,
     ) -> Option<usize> {
-        let taken = self.scope.declared(&variable.name).is_some();
-        unless(
-            !(taken || is_variable(around, &variable.name)),
-            variable.place,
-        )
+        let taken = self.scope.is_declared(&variable.name) || is_variable(around, &variable.name);
+        unless(!taken, variable.place)
     }
 }

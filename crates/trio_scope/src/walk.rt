@@ -1,13 +1,14 @@
 //! The one walk over formulas and their terms: what a rule finds in them first.
 
-ghost use Rattle.std.specs.Prelude.{◌≡◌, ◌++◌, true, OnOk, IfOk};
+ghost use Rattle.std.specs.Prelude.{◌≡◌, ◌++◌, OnOk, IfOk, position};
+ghost use Rattle.std.specs.Str.{bytes_eq};
 ghost use Rattle.std.specs.List.{flat_map};
 ghost use Rattle.trio_scope.specs.Places.{least};
 ghost use Rattle.trio_scope.specs.Gather.{Finding, variables_of, places_in_term, places_in_shape, places_in_arguments, places_in_sum, in_comparison, under, places_in, places_in_claims};
 
 use crate::place::earlier;
 use std::alloc::{AllocError, Global};
-use trio_base::Rel;
+use trio_base::{Name, Rel};
 use trio_syntax::{FormulaTree, Mention, PartTree, RefTree, SpecTree, TermShape, TermTree};
 
 /// A variable in whose body something stands, and what names its domain.
@@ -62,12 +63,7 @@ pub trait Rule {
         ensures { result ≡ least ((finding self.now).compared (variables_of around.now) rel place left.now right.now) };
 
     /// The first place at which a variable's own name or what names its domain breaks it.
-    fn variable(
-        &self,
-        around: &[Binder<'_>],
-        variable: &Mention,
-        domain: &RefTree,
-    ) -> Option<usize>
+    fn variable(&self, around: &[Binder<'_>], variable: &Mention, domain: &RefTree) -> Option<usize>
         ensures { result ≡ least ((finding self.now).variable (variables_of around.now) variable.now domain.now) };
 }
 
@@ -181,8 +177,7 @@ pub fn first_in<'a, R: Rule>(
         FormulaTree::One(_, part) => first_in(rule, around, part.get()),
         FormulaTree::Far(_, part, distance) => {
             let part = first_in(rule, around, part.get())?;
-            let distance =
-                first_in_term(rule, around.as_slice(), Role::Distance, true, distance);
+            let distance = first_in_term(rule, around.as_slice(), Role::Distance, true, distance);
             Ok(earlier(part, distance))
         }
         FormulaTree::Pair(_, left, right) => first_of_two(rule, around, left.get(), right.get()),
@@ -267,4 +262,13 @@ pub fn first_in_claims<R: Rule>(
         first = earlier(first, first_in(rule, &mut around, &claim.formula)?);
     }
     Ok(first)
+}
+
+/// The level of a variable: how many variables stand around its own.
+pub fn level_of(around: &[Binder<'_>], name: &Name) -> Option<usize>
+    ensures { result ≡ position (λ v. bytes_eq v.name name.now) (variables_of around.now) }
+{
+    around
+        .iter()
+        .position(|binder| binder.variable.name.as_str() == name.as_str())
 }

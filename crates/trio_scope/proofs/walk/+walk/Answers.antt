@@ -40,19 +40,28 @@ first_in-returns-in-One-clause-found g t c = rw (c.in-One.is, in-One, ← c.get-
 
 pub first_in-returns-in_ok-part-in-Far-clause-found : goal.first_in-returns-in_ok-part-in-Far-clause-found
 first_in-returns-in_ok-part-in-Far-clause-found g t c =
-    rw (c.in-Far.is, in-Far, least-append, ← c.get-in-Far.ensures, ← c.in_ok-part-in-Far.ensures.found, ← c.in_ok-part-in-Far.ensures.kept,
-    ← c.as_slice-in-Far.ensures.value, ← c.first_in_term-distance.ensures) c.earlier.ensures
+    rw (
+      c.in-Far.is,
+      in-Far,
+      least-append,
+      ← c.get-in-Far.ensures,
+      ← c.in_ok-part-in-Far.ensures.found,
+      ← c.in_ok-part-in-Far.ensures.kept,
+      ← c.as_slice-in-Far.ensures.value,
+      ← c.first_in_term-distance.ensures,
+    ) c.earlier.ensures
 
 pub first_in-returns-in-Pair-clause-found : goal.first_in-returns-in-Pair-clause-found
 first_in-returns-in-Pair-clause-found g t c =
     rw (c.in-Pair.is, in-Pair, ← c.get-in-Pair.ensures, ← c.get-in-Pair-2.ensures) c.first_of_two-in-Pair.ensures.found
 
 pub first_among-loop-formula-preserved : goal.first_among-loop-formula-preserved
-first_among-loop-formula-preserved g t c =
-    (c.in_ok-first_in.ensures.kept ∙ c.loop-formula.invariant.0,
-    least_next (λ (f : FormulaTree). places_in (g.R.Rule.finding c.args.rule.now) f (variables_of c.args.around.now.items)) [] refl
-    c.loop-formula.formula-index c.formula-item.result c.loop-formula-test.true c.formula-item.is c.loop-formula.invariant.1
-    (rw (← c.loop-formula.invariant.0) c.in_ok-first_in.ensures.found) c.earlier-first.ensures)
+first_among-loop-formula-preserved g t c = (
+  c.in_ok-first_in.ensures.kept ∙ c.loop-formula.invariant.0,
+  least_next (λ (f : FormulaTree). places_in (g.R.Rule.finding c.args.rule.now) f (variables_of c.args.around.now.items)) [] refl
+      c.loop-formula.formula-index c.formula-item.result c.loop-formula-test.true c.formula-item.is c.loop-formula.invariant.1
+      (rw (← c.loop-formula.invariant.0) c.in_ok-first_in.ensures.found) c.earlier-first.ensures,
+)
 
 pub first_of_two-returns-clause-found : goal.first_of_two-returns-clause-found
 first_of_two-returns-clause-found g t c =
@@ -64,6 +73,6 @@ first_under-returns-clause-found g t c =
     let e : List Variable = variables_of c.args.around.now.items in
     let x : Variable = record { name = c.args.binder.variable.now.name; domain = c.args.binder.domain.now } in
     let grown : c.in_ok-inside.inside ≡ least (places_in rule c.args.body.now (e ++ x ∷ [])) =
-        rw (c.in_ok-push.ensures.items, map-append) at c.in_ok-inside.ensures.found in
+    rw (c.in_ok-push.ensures.items, map-append) at c.in_ok-inside.ensures.found in
     least_both (rule.variable e c.args.binder.variable.now c.args.binder.domain.now) (places_in rule c.args.body.now (e ++ x ∷ []))
     (rw (← c.as_slice.ensures.value) c.variable-own.ensures) grown c.earlier.ensures
