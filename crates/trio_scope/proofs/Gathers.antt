@@ -10,11 +10,11 @@ use Rattle.trio_syntax.specs.declared.tree.Quantifier.{Quantifier}
 use Rattle.trio_syntax.specs.declared.tree.Mention.{Mention}
 use Rattle.trio_syntax.specs.declared.tree.Written.{Written}
 use Rattle.trio_syntax.specs.declared.tree.RefTree.{RefTree}
-use Rattle.trio_syntax.specs.declared.tree.TermTree.{TermTree, TermTree-F, out-TermTree, roll-TermTree, roll-out-TermTree, map-TermTree, para-TermTree, para-roll-TermTree}
-use Rattle.trio_syntax.specs.declared.tree.TermShape.{TermShape, TermShape-F, roll-TermShape, map-TermShape, para-TermShape, para-roll-TermShape}
+use Rattle.trio_syntax.specs.declared.tree.TermTree.{TermTree, out-TermTree, roll-out-TermTree, para-TermTree, para-roll-TermTree}
+use Rattle.trio_syntax.specs.declared.tree.TermShape.{TermShape, TermShape-F, roll-TermShape, map-TermShape, para-roll-TermShape}
 use Rattle.trio_syntax.specs.declared.tree.TermShape.TheOpen as open_shape
 use Rattle.trio_syntax.specs.declared.tree.TermShape.TheVariants as shape
-use Rattle.trio_syntax.specs.declared.tree.PartTree.{PartTree, PartTree-F, out-PartTree, roll-PartTree, roll-out-PartTree, map-PartTree, para-PartTree, para-roll-PartTree}
+use Rattle.trio_syntax.specs.declared.tree.PartTree.{PartTree, out-PartTree, roll-out-PartTree, para-PartTree, para-roll-PartTree}
 use Rattle.trio_syntax.specs.declared.tree.FormulaTree.{FormulaTree}
 use Rattle.trio_syntax.specs.declared.tree.FormulaTree.TheVariants as formula
 use Rattle.trio_syntax.specs.declared.tree.FormulaTree.TheOpen.{FormulaTree-F}

@@ -1,6 +1,5 @@
 -- A map of names as one more declaration is noted in it.
 use Rattle.std.proofs.Common.{◌≡◌, ℕ, Bool, true, false, not, cond, ◌||◌, List, [], ◌∷◌, ◌++◌, Option, None, Some, find, is_some, refl, sym, ap, ◌∙◌, append_assoc}
-use Rattle.std.specs.List.{list_any}
 use Rattle.std.specs.Option.{option_map}
 use Rattle.std.specs.Str.{bytes_eq}
 use Rattle.std.specs.Map.{update}
@@ -15,7 +14,7 @@ use Rattle.trio_scope.specs.declared.names.Names.{Names}
 use Rattle.trio_scope.specs.Places.{earlier, least, unless}
 use Rattle.trio_scope.specs.Names.{Declaration, declaration, declared_of, is_declared, repeated_behind}
 use Rattle.trio_scope.specs.Table.{declared_in, Tells}
-use Rattle.trio_scope.proofs.Least.{earlier-none, least-append, least_both}
+use Rattle.trio_scope.proofs.Least.{earlier-none, least_both}
 
 -- a name keeps its declaration, and has this one where it had none and is the name that is noted
 noted : Option Declared → Bool → Declared → Option Declared

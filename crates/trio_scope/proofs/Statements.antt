@@ -1,6 +1,6 @@
 -- What statements declare, one after another.
-use Rattle.std.proofs.Common.{◌≡◌, ℕ, zero, suc, ◌+◌, ◌<◌, List, [], ◌∷◌, ◌++◌, length, map, take, get_or, refl, sym, ap, subst, ◌∙◌, append_assoc, length-append, add_assoc, arith}
-use Rattle.std.proofs.lemmas.List.{append-nil, take_more, take_all, map-append}
+use Rattle.std.proofs.Common.{◌≡◌, ℕ, ◌+◌, List, [], ◌∷◌, ◌++◌, length, refl, sym, ap, subst, ◌∙◌, append_assoc, add_assoc, arith}
+use Rattle.std.proofs.lemmas.List.{append-nil}
 use Rattle.trio_syntax.specs.declared.tree.Mention.{Mention}
 use Rattle.trio_syntax.specs.declared.tree.DomainTree.{DomainTree}
 use Rattle.trio_syntax.specs.declared.tree.ItemTree.{ItemTree}

@@ -1,6 +1,6 @@
 //! The one walk over formulas and their terms: what a rule finds in them first.
 
-ghost use Rattle.std.specs.Prelude.{◌≡◌, ◌++◌, OnOk, IfOk, position};
+ghost use Rattle.std.specs.Prelude.{◌≡◌, OnOk, IfOk, position};
 ghost use Rattle.std.specs.Str.{bytes_eq};
 ghost use Rattle.std.specs.List.{flat_map};
 ghost use Rattle.trio_scope.specs.Places.{least};
@@ -169,8 +169,16 @@ pub fn first_in<'a, R: Rule>(
         FormulaTree::Not(part) => first_in(rule, around, part.get()),
         FormulaTree::And(parts) => first_among(rule, around, parts.as_slice()),
         FormulaTree::Or(parts) => first_among(rule, around, parts.as_slice()),
-        FormulaTree::Implies(left, right) => first_of_two(rule, around, left.get(), right.get()),
-        FormulaTree::Iff(left, right) => first_of_two(rule, around, left.get(), right.get()),
+        FormulaTree::Implies(left, right) => {
+            let left = first_in(rule, around, left.get())?;
+            let right = first_in(rule, around, right.get())?;
+            Ok(earlier(left, right))
+        }
+        FormulaTree::Iff(left, right) => {
+            let left = first_in(rule, around, left.get())?;
+            let right = first_in(rule, around, right.get())?;
+            Ok(earlier(left, right))
+        }
         FormulaTree::Quantified(_, variable, domain, body) => {
             first_under(rule, around, Binder { variable, domain }, body.get())
         }
@@ -180,7 +188,11 @@ pub fn first_in<'a, R: Rule>(
             let distance = first_in_term(rule, around.as_slice(), Role::Distance, true, distance);
             Ok(earlier(part, distance))
         }
-        FormulaTree::Pair(_, left, right) => first_of_two(rule, around, left.get(), right.get()),
+        FormulaTree::Pair(_, left, right) => {
+            let left = first_in(rule, around, left.get())?;
+            let right = first_in(rule, around, right.get())?;
+            Ok(earlier(left, right))
+        }
     }
 }
 
@@ -214,21 +226,6 @@ fn first_among<'a, R: Rule>(
         first = earlier(first, first_in(rule, around, formula)?);
     }
     Ok(first)
-}
-
-#[cycle(walk)]
-fn first_of_two<'a, R: Rule>(
-    rule: &R,
-    around: &mut Vec<Binder<'a>>,
-    left: &'a FormulaTree,
-    right: &'a FormulaTree,
-) -> Result<Option<usize>, AllocError>
-    ensures found { IfOk result (λ first. first ≡ least (places_in (R.finding rule.now) left.now (variables_of around.old.items) ++ places_in (R.finding rule.now) right.now (variables_of around.old.items))) }
-    ensures kept { OnOk result (around.new.items ≡ around.old.items) }
-{
-    let left = first_in(rule, around, left)?;
-    let right = first_in(rule, around, right)?;
-    Ok(earlier(left, right))
 }
 
 #[cycle(walk)]

@@ -1,6 +1,4 @@
 -- The answer to the goal of `first_in_statement`.
-use Rattle.std.proofs.Common.{List, [], ◌∷◌, refl}
-use Rattle.std.specs.List.{flat_map}
 use Rattle.std.proofs.lemmas.Grind.{flat_map-append}
 use Rattle.std.proofs.lemmas.List.{append-nil}
 use Rattle.trio_scope.proofs.Least.{least-append}

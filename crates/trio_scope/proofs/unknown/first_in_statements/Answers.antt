@@ -1,5 +1,5 @@
 -- The answers to the goals of `first_in_statements`.
-use Rattle.std.proofs.Common.{List, ℕ, []}
+use Rattle.std.proofs.Common.{[]}
 use Rattle.std.specs.List.{flat_map}
 use Rattle.trio_syntax.specs.declared.tree.DeclarationTree.{DeclarationTree}
 use Rattle.trio_scope.specs.Names.{declarations}

@@ -1,9 +1,9 @@
 -- The answers to the goals of the walk over a formula.
-use Rattle.std.proofs.Common.{◌≡◌, List, [], ◌∷◌, ◌++◌, true, map, refl, sym, ap, ◌∙◌}
+use Rattle.std.proofs.Common.{◌≡◌, List, [], ◌∷◌, ◌++◌, refl, ◌∙◌}
 use Rattle.std.proofs.lemmas.List.{map-append}
 use Rattle.trio_syntax.specs.declared.tree.FormulaTree.{FormulaTree}
 use Rattle.trio_scope.specs.Places.{least}
-use Rattle.trio_scope.specs.Gather.{Variable, Finding, variables_of, under, places_in}
+use Rattle.trio_scope.specs.Gather.{Variable, Finding, variables_of, places_in}
 use Rattle.trio_scope.proofs.Least.{least-append, least_both, least_next}
 use Rattle.trio_scope.proofs.Gathers.{in-Lone, in-Compare, in-Not, in-And, in-Or, in-Implies, in-Iff, in-Quantified, in-One, in-Far, in-Pair}
 use Rattle.trio_scope.proofs.walk.+walk.Goals as goal
@@ -23,13 +23,15 @@ first_in-returns-in-And-clause-found g t c = rw (c.in-And.is, in-And, ← c.as_s
 pub first_in-returns-in-Or-clause-found : goal.first_in-returns-in-Or-clause-found
 first_in-returns-in-Or-clause-found g t c = rw (c.in-Or.is, in-Or, ← c.as_slice-in-Or.ensures) c.first_among-in-Or.ensures.found
 
-pub first_in-returns-in-Implies-clause-found : goal.first_in-returns-in-Implies-clause-found
-first_in-returns-in-Implies-clause-found g t c =
-    rw (c.in-Implies.is, in-Implies, ← c.get-in-Implies.ensures, ← c.get-in-Implies-2.ensures) c.first_of_two.ensures.found
+pub first_in-returns-in_ok-right-in-Implies-clause-found : goal.first_in-returns-in_ok-right-in-Implies-clause-found
+first_in-returns-in_ok-right-in-Implies-clause-found g t c =
+    rw (c.in-Implies.is, in-Implies, least-append, ← c.get-in-Implies.ensures, ← c.get-in-Implies-2.ensures, ← c.in_ok-left-in-Implies.ensures.found,
+    ← c.in_ok-left-in-Implies.ensures.kept, ← c.in_ok-right-in-Implies.ensures.found) c.earlier.ensures
 
-pub first_in-returns-in-Iff-clause-found : goal.first_in-returns-in-Iff-clause-found
-first_in-returns-in-Iff-clause-found g t c =
-    rw (c.in-Iff.is, in-Iff, ← c.get-in-Iff.ensures, ← c.get-in-Iff-2.ensures) c.first_of_two-in-Iff.ensures.found
+pub first_in-returns-in_ok-right-in-Iff-clause-found : goal.first_in-returns-in_ok-right-in-Iff-clause-found
+first_in-returns-in_ok-right-in-Iff-clause-found g t c =
+    rw (c.in-Iff.is, in-Iff, least-append, ← c.get-in-Iff.ensures, ← c.get-in-Iff-2.ensures, ← c.in_ok-left-in-Iff.ensures.found,
+    ← c.in_ok-left-in-Iff.ensures.kept, ← c.in_ok-right-in-Iff.ensures.found) c.earlier-in-Iff.ensures
 
 pub first_in-returns-in-Quantified-clause-found : goal.first_in-returns-in-Quantified-clause-found
 first_in-returns-in-Quantified-clause-found g t c =
@@ -49,11 +51,12 @@ first_in-returns-in_ok-part-in-Far-clause-found g t c =
       ← c.in_ok-part-in-Far.ensures.kept,
       ← c.as_slice-in-Far.ensures.value,
       ← c.first_in_term-distance.ensures,
-    ) c.earlier.ensures
+    ) c.earlier-in-Far.ensures
 
-pub first_in-returns-in-Pair-clause-found : goal.first_in-returns-in-Pair-clause-found
-first_in-returns-in-Pair-clause-found g t c =
-    rw (c.in-Pair.is, in-Pair, ← c.get-in-Pair.ensures, ← c.get-in-Pair-2.ensures) c.first_of_two-in-Pair.ensures.found
+pub first_in-returns-in_ok-right-in-Pair-clause-found : goal.first_in-returns-in_ok-right-in-Pair-clause-found
+first_in-returns-in_ok-right-in-Pair-clause-found g t c =
+    rw (c.in-Pair.is, in-Pair, least-append, ← c.get-in-Pair.ensures, ← c.get-in-Pair-2.ensures, ← c.in_ok-left-in-Pair.ensures.found,
+    ← c.in_ok-left-in-Pair.ensures.kept, ← c.in_ok-right-in-Pair.ensures.found) c.earlier-in-Pair.ensures
 
 pub first_among-loop-formula-preserved : goal.first_among-loop-formula-preserved
 first_among-loop-formula-preserved g t c = (
@@ -62,10 +65,6 @@ first_among-loop-formula-preserved g t c = (
       c.loop-formula.formula-index c.formula-item.result c.loop-formula-test.true c.formula-item.is c.loop-formula.invariant.1
       (rw (← c.loop-formula.invariant.0) c.in_ok-first_in.ensures.found) c.earlier-first.ensures,
 )
-
-pub first_of_two-returns-clause-found : goal.first_of_two-returns-clause-found
-first_of_two-returns-clause-found g t c =
-    rw (least-append, ← c.in_ok-left.ensures.found, ← c.in_ok-left.ensures.kept, ← c.in_ok-right.ensures.found) c.earlier.ensures
 
 pub first_under-returns-clause-found : goal.first_under-returns-clause-found
 first_under-returns-clause-found g t c =

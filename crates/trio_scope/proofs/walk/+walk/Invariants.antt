@@ -1,7 +1,6 @@
 -- What the loop of `first_among` keeps.
-use Rattle.std.proofs.Common.{◌≡◌, ◌+◌, ◌*◌, max, take}
+use Rattle.std.proofs.Common.{◌≡◌, take}
 use Rattle.std.specs.List.{flat_map}
-use Rattle.trio_syntax.specs.declared.tree.FormulaTree.{size-FormulaTree}
 use Rattle.trio_scope.specs.Places.{least}
 use Rattle.trio_scope.specs.Gather.{variables_of, places_in}
 use Rattle.trio_scope.proofs.walk.+walk.Given as goal
@@ -10,6 +9,3 @@ abbrev pub invariant-first_among-loop-formula : goal.invariant-first_among-loop-
 invariant-first_among-loop-formula g l =
     (l.around.items ≡ l.fn.around.items)
     × (l.first ≡ least (flat_map (λ f. places_in (g.R.Rule.finding l.rule) f (variables_of l.fn.around.items)) (take l.formula-index l.formulas)))
-
-abbrev pub decreases-first_of_two : goal.decreases-first_of_two
-decreases-first_of_two g l = 2 * max (size-FormulaTree l.left.now) (size-FormulaTree l.right.now) + 1

@@ -1,5 +1,5 @@
 -- The answers to the goals of `claims`.
-use Rattle.std.proofs.Common.{◌≡◌, ◌+◌, List, [], ◌∷◌, ◌++◌, map, take, sym, ap, ◌∙◌}
+use Rattle.std.proofs.Common.{◌≡◌, ◌+◌, [], ◌∷◌, ◌++◌, map, take, sym, ap, ◌∙◌}
 use Rattle.std.proofs.lemmas.List.{take_more, take_all, map-append}
 use Rattle.trio_syntax.specs.declared.tree.ClaimTree.{ClaimTree}
 use Rattle.trio_scope.specs.declared.meaning.Meaning.TheVariants.{Claim}

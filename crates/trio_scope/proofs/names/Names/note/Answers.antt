@@ -1,9 +1,7 @@
 -- The answers to the goals of `note`.
-use Rattle.std.proofs.Common.{Some, sym, ap, refl, ◌∙◌}
-use Rattle.std.specs.Option.{is_some}
+use Rattle.std.proofs.Common.{Some, sym, refl, ◌∙◌}
 use Rattle.std.proofs.lemmas.Map.Text.{hash_map_updates_str}
 use Rattle.trio_scope.specs.Names.{declaration}
-use Rattle.trio_scope.specs.Table.{declared_in}
 use Rattle.trio_scope.proofs.Noted.{tells_again, tells_first}
 use Rattle.trio_scope.proofs.names.Names.note.Goals as goal
 

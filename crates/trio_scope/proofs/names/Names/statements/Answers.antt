@@ -1,6 +1,6 @@
 -- The answers to the goals of `statements`.
 use Rattle.std.proofs.Common.{◌≡◌, ◌+◌, [], ◌∷◌, ◌++◌, take, sym, ap, ◌∙◌}
-use Rattle.std.proofs.lemmas.List.{take_more, take_all}
+use Rattle.std.proofs.lemmas.List.{take_more}
 use Rattle.trio_scope.proofs.Statements.{reads_then}
 use Rattle.trio_scope.proofs.names.Names.statements.Goals as goal
 

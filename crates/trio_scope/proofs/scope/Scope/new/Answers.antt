@@ -1,5 +1,5 @@
 -- The answer to the goal of `new`.
-use Rattle.std.proofs.Common.{[], ap, sym}
+use Rattle.std.proofs.Common.{[]}
 use Rattle.trio_scope.specs.Names.{declarations}
 use Rattle.trio_scope.proofs.scope.Scope.new.Goals as goal
 
