@@ -3,9 +3,11 @@
 
 mod depth;
 mod fault;
+mod reader;
 mod tree;
 
 pub use fault::TreeFault;
+pub use reader::read_tree;
 pub use tree::{
     ClaimTree, DeclarationTree, DomainTree, FormulaTree, IntTree, ItemTree, Mention, PartTree,
     Quantifier, RefTree, SpecTree, TermShape, TermTree, ValuesTree, Written,
