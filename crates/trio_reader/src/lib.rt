@@ -1,21 +1,12 @@
 //! The reader of specification texts.
 #![tactic(auto)]
 
-mod building;
 mod fault;
-mod kind;
-mod kinds;
 mod laws;
-mod phases;
-mod place;
-mod ranges;
-mod reading;
-mod repeated;
-mod scope;
-#[cfg(test)]
-mod tests;
-mod unknown;
 
 pub use fault::SpecFault;
-pub use laws::{faulty_text_is_no_specification, text_has_one_fault, text_has_one_specification};
-pub use reading::read_spec;
+pub use laws::{
+    faulty_text_is_no_specification, text_has_one_fault, text_has_one_specification,
+    text_has_specification_or_fault,
+};
+pub use trio_types::Which;
