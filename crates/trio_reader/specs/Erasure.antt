@@ -1,5 +1,5 @@
 -- The parts of a specification that a tree stands for: places and brackets leave no trace, names become the numbers of what they stand for.
-use Rattle.std.specs.Prelude.{ℕ, ℤ, pos, neg_ℤ, ◌+◌, Bool, not, if◌then◌else◌, List, [], ◌∷◌, ◌++◌, Option, None, Some, map, filter, position, length, codes}
+use Rattle.std.specs.Prelude.{ℕ, ℤ, pos, neg_ℤ, ◌+◌, Bool, true, false, not, if◌then◌else◌, List, [], ◌∷◌, ◌++◌, Option, None, Some, map, filter, position, length, codes}
 use Rattle.std.specs.Option.{option_map}
 use Rattle.std.specs.Str.{bytes_eq}
 use Rattle.trio_syntax.specs.declared.tree.Quantifier.{Quantifier}
@@ -8,9 +8,9 @@ use Rattle.trio_syntax.specs.declared.tree.Mention.{Mention}
 use Rattle.trio_syntax.specs.declared.tree.RefTree.{RefTree}
 use Rattle.trio_syntax.specs.declared.tree.RefTree.TheVariants as ref
 use Rattle.trio_syntax.specs.declared.tree.TermTree.{TermTree, TermTree-F, fold-TermTree}
-use Rattle.trio_syntax.specs.declared.tree.TermShape.{TermShape-F}
+use Rattle.trio_syntax.specs.declared.tree.TermShape.{TermShape, TermShape-F, fold-TermShape}
 use Rattle.trio_syntax.specs.declared.tree.TermShape.TheOpen as shape
-use Rattle.trio_syntax.specs.declared.tree.PartTree.{PartTree-F}
+use Rattle.trio_syntax.specs.declared.tree.PartTree.{PartTree, PartTree-F, out-PartTree}
 use Rattle.trio_syntax.specs.declared.tree.FormulaTree.{FormulaTree}
 use Rattle.trio_syntax.specs.declared.tree.FormulaTree.TheOpen.{FormulaTree-F}
 use Rattle.trio_syntax.specs.declared.tree.FormulaTree.TheOpen as tree_node
@@ -36,6 +36,8 @@ use Rattle.trio_types.specs.World.{World}
 use Rattle.trio_types.specs.Parts.{Parts, world_of_parts}
 use Rattle.trio_scope.specs.declared.meaning.Meaning.{Meaning}
 use Rattle.trio_scope.specs.declared.meaning.Meaning.TheVariants as meaning
+use Rattle.trio_reader.specs.declared.sense.Sense.{Sense}
+use Rattle.trio_reader.specs.declared.sense.Sense.TheVariants as sense
 use Rattle.trio_scope.specs.Names.{declarations, declared_of, domains_in, items_in}
 use Rattle.trio_scope.specs.Gather.{Variable}
 
@@ -67,17 +69,26 @@ domains_of tree around = map (λ v. domain_of tree v.domain) around
 abbrev pub level_in : List Variable → List ℕ → Option ℕ
 level_in around name = position (λ v. bytes_eq v.name name) around
 
--- a name alone is a variable, a word or an item; where it is none of them, a read of an item that there is not
-abbrev pub name_meant : ℕ → Option ℕ → Option Meaning → Term
-name_meant none (Some level) m = term.Var level
-name_meant none None (Some (meaning.Word d v)) = term.Value d v
-name_meant none None (Some (meaning.Item n)) = term.Read n []
-name_meant none None m = term.Read none []
+-- a name in a term is a variable, a word or an item; where it is none of them, it stands for an item that there is not
+abbrev pub sense_in : ℕ → Option ℕ → Option Meaning → Sense
+sense_in none (Some level) m = sense.Variable level
+sense_in none None (Some (meaning.Word d v)) = sense.Word d v
+sense_in none None (Some (meaning.Item n)) = sense.Item n
+sense_in none None m = sense.Item none
 
--- a name with arguments is an item; where it is not, one that there is not
-abbrev pub item_meant : ℕ → Option ℕ → Option Meaning → ℕ
-item_meant none None (Some (meaning.Item n)) = n
-item_meant none level m = none
+abbrev pub sense_of : SpecTree → List Variable → List ℕ → Sense
+sense_of tree around name = sense_in (item_count tree) (level_in around name) (meaning_of tree name)
+
+-- a name alone
+abbrev pub sense_term : Sense → Term
+sense_term (sense.Variable level) = term.Var level
+sense_term (sense.Word d v) = term.Value d v
+sense_term (sense.Item n) = term.Read n []
+
+-- the item that a name with arguments reads; a variable and a word are none
+abbrev pub sense_item : ℕ → Sense → ℕ
+sense_item none (sense.Item n) = n
+sense_item none s = none
 
 -- a term of a tree, under the variables in whose body it stands
 abbrev pub Erased : Type 0
@@ -86,9 +97,8 @@ Erased = List Variable → Term
 abbrev pub erased_shape : SpecTree → TermShape-F Erased (List Variable → SignedTerm) Erased → Erased
 erased_shape tree (shape.Number n) e = term.Number n.number
 erased_shape tree (shape.Truth b) e = term.Value 0 (if b then 1 else 0)
-erased_shape tree (shape.Named m) e = name_meant (item_count tree) (level_in e m.name) (meaning_of tree m.name)
-erased_shape tree (shape.Call m args) e =
-    term.Read (item_meant (item_count tree) (level_in e m.name) (meaning_of tree m.name)) (map (λ a. a e) args)
+erased_shape tree (shape.Named m) e = sense_term (sense_of tree e m.name)
+erased_shape tree (shape.Call m args) e = term.Read (sense_item (item_count tree) (sense_of tree e m.name)) (map (λ a. a e) args)
 erased_shape tree (shape.Sum parts) e = term.Sum (map (λ p. p e) parts)
 erased_shape tree (shape.Times n factor) e = term.Times n.number (factor e)
 
@@ -98,12 +108,23 @@ erased_part p e = roll-SignedTerm (record { minus = p.minus; term = p.term e })
 abbrev pub erased_term : TermTree-F Erased (List Variable → SignedTerm) Erased → Erased
 erased_term t e = t.shape e
 
+unfoldable pub shape_of : SpecTree → TermShape → Erased
+shape_of tree = fold-TermShape Erased (List Variable → SignedTerm) Erased (erased_shape tree) erased_part erased_term
+
 unfoldable pub term_of : SpecTree → TermTree → Erased
 term_of tree = fold-TermTree Erased (List Variable → SignedTerm) Erased (erased_shape tree) erased_part erased_term
+
+-- a part of a sum
+abbrev pub part_from : SpecTree → PartTree → List Variable → SignedTerm
+part_from tree p e = roll-SignedTerm (record { minus = (out-PartTree p).minus; term = term_of tree (out-PartTree p).term e })
 
 abbrev pub quantified : Quantifier → List ℕ → ℕ → Formula → Formula
 quantified quantifier.All name d f = formula.All name d f
 quantified quantifier.Ex name d f = formula.Ex name d f
+
+-- a quantifier, whose body stands under its variable
+abbrev pub quantified_from : SpecTree → List Variable → Quantifier → Mention → RefTree → (List Variable → Formula) → Formula
+quantified_from tree e q x domain body = quantified q x.name (domain_of tree domain) (body (e ++ record { name = x.name; domain = domain } ∷ []))
 
 abbrev pub erased_formula : SpecTree → FormulaTree-F (List Variable → Formula) → List Variable → Formula
 erased_formula tree (tree_node.Lone t) e = formula.Lone (term_of tree t e)
@@ -113,8 +134,7 @@ erased_formula tree (tree_node.And fs) e = formula.And (map (λ f. f e) fs)
 erased_formula tree (tree_node.Or fs) e = formula.Or (map (λ f. f e) fs)
 erased_formula tree (tree_node.Implies f g) e = formula.Implies (f e) (g e)
 erased_formula tree (tree_node.Iff f g) e = formula.Iff (f e) (g e)
-erased_formula tree (tree_node.Quantified q x domain f) e =
-    quantified q x.name (domain_of tree domain) (f (e ++ record { name = x.name; domain = domain } ∷ []))
+erased_formula tree (tree_node.Quantified q x domain f) e = quantified_from tree e q x domain f
 erased_formula tree (tree_node.One op f) e = formula.One op (f e)
 erased_formula tree (tree_node.Far op f t) e = formula.Far op (f e) (term_of tree t e)
 erased_formula tree (tree_node.Pair op f g) e = formula.Pair op (f e) (g e)
@@ -143,14 +163,22 @@ item_from tree i = record { name = i.name.name; input = i.input; args = map (dom
 abbrev pub axiom_from : SpecTree → ClaimTree → Axiom
 axiom_from tree c = record { name = c.name.name; at = option_map (λ k. k.number) c.at; formula = formula_of tree c.formula [] }
 
+-- an axiom, or a goal
+abbrev pub is_wanted : Bool → ClaimTree → Bool
+is_wanted goals c = if goals then c.goal else not c.goal
+
+-- the axioms among claims, or the goals
+abbrev pub claims_from : SpecTree → Bool → List ClaimTree → List Axiom
+claims_from tree goals claims = map (axiom_from tree) (filter (is_wanted goals) claims)
+
 -- the parts of a specification that a tree stands for
 unfoldable pub parts_of_tree : SpecTree → Parts
 parts_of_tree tree = record {
   instants = tree.instants.number;
   domains = bool_domain ∷ map domain_from (domains_in tree.declarations);
   items = map (item_from tree) (items_in tree.declarations);
-  axioms = map (axiom_from tree) (filter (λ c. not c.goal) tree.claims);
-  goals = map (axiom_from tree) (filter (λ c. c.goal) tree.claims);
+  axioms = claims_from tree false tree.claims;
+  goals = claims_from tree true tree.claims;
 }
 
 -- what its formulas speak of

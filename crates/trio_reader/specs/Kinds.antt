@@ -17,7 +17,7 @@ use Rattle.trio_scope.specs.declared.walk.Role.{Role}
 use Rattle.trio_scope.specs.declared.walk.Role.TheVariants as role
 use Rattle.trio_scope.specs.Scope.{names_of_ref, refs_of}
 use Rattle.trio_scope.specs.Gather.{Variable, Finding, places_in_claims}
-use Rattle.trio_reader.specs.Erasure.{meaning_of, domain_of, domains_of, level_in, name_meant, item_meant, item_count, term_of, world_of_tree}
+use Rattle.trio_reader.specs.Erasure.{domain_of, domains_of, sense_of, sense_term, sense_item, item_count, term_of, world_of_tree}
 
 -- a use, with its token
 pub record Placed : Type 0 where
@@ -58,9 +58,9 @@ read_uses tree e inside p number args =
 -- what a term itself uses, apart from its parts
 abbrev pub shape_uses : SpecTree → List Variable → Bool → TermShape-F TermShape PartTree TermTree → List Placed
 shape_uses tree e inside (shape.Named m) =
-    map (placed m.place) (term_uses (world_of_tree tree) (domains_of tree e) inside (name_meant (item_count tree) (level_in e m.name) (meaning_of tree m.name)))
+    map (placed m.place) (term_uses (world_of_tree tree) (domains_of tree e) inside (sense_term (sense_of tree e m.name)))
 shape_uses tree e inside (shape.Call m args) =
-    read_uses tree e inside m.place (item_meant (item_count tree) (level_in e m.name) (meaning_of tree m.name)) args
+    read_uses tree e inside m.place (sense_item (item_count tree) (sense_of tree e m.name)) args
 shape_uses tree e inside s = []
 
 -- what an occurrence of a term uses, apart from its parts

@@ -1,8 +1,10 @@
 //! The reader of specification texts.
 #![tactic(auto)]
 
+mod building;
 mod fault;
 mod laws;
+mod sense;
 
 pub use fault::SpecFault;
 pub use laws::{
