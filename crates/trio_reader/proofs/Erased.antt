@@ -1,5 +1,6 @@
 -- What each form of a term and of a formula of a tree stands for.
-use Rattle.std.proofs.Common.{◌≡◌, ℕ, Bool, if◌then◌else◌, List, [], ◌∷◌, map, refl, ap, sym, ◌∙◌}
+use Rattle.std.proofs.Common.{◌≡◌, ℕ, ◌+◌, ◌<◌, Bool, if◌then◌else◌, List, [], ◌∷◌, ◌++◌, length, map, take, get_or, refl, ap, sym, ◌∙◌}
+use Rattle.std.proofs.lemmas.List.{take_more, map-append}
 use Rattle.trio_base.specs.declared.operators.Rel.{Rel}
 use Rattle.trio_base.specs.declared.operators.OneOp.{OneOp}
 use Rattle.trio_base.specs.declared.operators.FarOp.{FarOp}
@@ -28,11 +29,11 @@ use Rattle.trio_types.specs.declared.formula.Formula.TheVariants as formula
 use Rattle.trio_scope.specs.Gather.{Variable}
 use Rattle.trio_reader.specs.Erasure.{Erased, erased_shape, erased_part, erased_term, shape_of, term_of, part_from, sense_of, sense_term, sense_item, item_count, erased_formula, formula_of, quantified_from}
 
-map-map : {X Y Z : Type 0} (f : Y → Z) (g : X → Y) (xs : List X) → map f (map g xs) ≡ map (λ x. f (g x)) xs
+pub map-map : {X Y Z : Type 0} (f : Y → Z) (g : X → Y) (xs : List X) → map f (map g xs) ≡ map (λ x. f (g x)) xs
 map-map f g [] = refl
 map-map f g (x ∷ xs) = ap (λ ys. f (g x) ∷ ys) (map-map f g xs)
 
-map_same : {X Y : Type 0} (f g : X → Y) → ((x : X) → f x ≡ g x) → (xs : List X) → map f xs ≡ map g xs
+pub map_same : {X Y : Type 0} (f g : X → Y) → ((x : X) → f x ≡ g x) → (xs : List X) → map f xs ≡ map g xs
 map_same f g same [] = refl
 map_same f g same (x ∷ xs) = rw (same x, map_same f g same xs) refl
 
@@ -123,3 +124,11 @@ module _ (tree : SpecTree) (e : List Variable) where
   pub formula-Pair : (op : PairOp) (f g : FormulaTree) →
       formula_of tree (tree_formula.Pair op f g) e ≡ formula.Pair op (formula_of tree f e) (formula_of tree g e)
   formula-Pair op f g = formula_at (open_formula.Pair op f g) (tree_formula.rolls-Pair op f g)
+
+-- one more statement, in a loop that maps what the statements declare
+pub mapped_next : {S A B : Type 0} (f : A → B) (gather : List S → List A) →
+    ((xs ys : List S) → gather (xs ++ ys) ≡ gather xs ++ gather ys) → (xs : List S) (i : ℕ) (x : S) → i < length xs → x ≡ get_or xs i x →
+    map f (gather (take i xs)) ++ map f (gather (x ∷ [])) ≡ map f (gather (take (i + 1) xs))
+mapped_next f gather split xs i x below is =
+    sym (map-append f (gather (take i xs)) (gather (x ∷ []))) ∙ ap (map f) (sym (split (take i xs) (x ∷ []))
+    ∙ ap gather (ap (λ y. take i xs ++ y ∷ []) is ∙ sym (take_more xs i x below)))

@@ -1,5 +1,5 @@
 -- What a text uses, as the kinds of a specification's parts are judged, with the token that is at fault where a use is wrong.
-use Rattle.std.specs.Prelude.{ℕ, Bool, List, [], ◌∷◌, ◌++◌, Option, None, Some, map, filter, not, length, slice_get, zip}
+use Rattle.std.specs.Prelude.{ℕ, Bool, List, [], ◌∷◌, ◌++◌, Option, None, Some, map, length, slice_get, zip}
 use Rattle.std.specs.List.{flat_map}
 use Rattle.std.specs.Option.{option_map}
 use Rattle.trio_base.specs.declared.operators.Rel.{Rel}
@@ -13,6 +13,7 @@ use Rattle.trio_syntax.specs.declared.tree.PartTree.{PartTree}
 use Rattle.trio_syntax.specs.declared.tree.SpecTree.{SpecTree}
 use Rattle.trio_types.specs.declared.spec.Item.{Item}
 use Rattle.trio_types.specs.Kinds.{Kind, Use, kind, kind_in, term_uses, in_role, of_domain, of_item, alone, part, distance, argument, compared, is_right}
+use Rattle.trio_scope.specs.Places.{unless}
 use Rattle.trio_scope.specs.declared.walk.Role.{Role}
 use Rattle.trio_scope.specs.declared.walk.Role.TheVariants as role
 use Rattle.trio_scope.specs.Scope.{names_of_ref, refs_of}
@@ -29,7 +30,7 @@ placed p u = record { place = p; use_ = u }
 
 -- the places of the uses that are not right
 abbrev pub wrong_places : List Placed → List ℕ
-wrong_places uses = map (λ u. u.place) (filter (λ u. not (is_right u.use_)) uses)
+wrong_places uses = flat_map (λ u. unless (is_right u.use_) u.place) uses
 
 -- the kind of a term of the tree
 abbrev pub kind_of : SpecTree → List Variable → TermTree → Kind
@@ -44,23 +45,32 @@ role_uses role.Factor p k = placed p (in_role part k) ∷ []
 role_uses role.Compared p k = []
 role_uses role.Argument p k = []
 
-abbrev args_of : Option Item → List ℕ
+-- a name alone, at its token
+abbrev pub name_uses : SpecTree → List Variable → Bool → Mention → List Placed
+name_uses tree e inside m = map (placed m.place) (term_uses (world_of_tree tree) (domains_of tree e) inside (sense_term (sense_of tree e m.name)))
+
+abbrev pub args_of : Option Item → List ℕ
 args_of None = []
 args_of (Some item) = item.args
 
--- a read of the item of this number, at its name, and its arguments, each at its first token
+-- an argument of a domain, at its first token
+abbrev pub argument_use : SpecTree → List Variable → ℕ × TermTree → Placed
+argument_use tree e a = placed (out-TermTree a.1).place (in_role (argument (kind_in (world_of_tree tree) a.0)) (kind_of tree e a.1))
+
+-- a read with this many arguments
+abbrev pub item_use : SpecTree → Bool → ℕ → ℕ → Use
+item_use tree inside number given = of_item inside (option_map (λ item. length item.args) (slice_get (world_of_tree tree).items number)) given
+
+-- a read of the item of this number, at its name, and its arguments
 abbrev pub read_uses : SpecTree → List Variable → Bool → ℕ → ℕ → List TermTree → List Placed
 read_uses tree e inside p number args =
-    placed p (of_item inside (option_map (λ item. length item.args) (slice_get (world_of_tree tree).items number)) (length args))
-    ∷ map (λ a. placed (out-TermTree a.1).place (in_role (argument (kind_in (world_of_tree tree) a.0)) (kind_of tree e a.1)))
-    (zip (args_of (slice_get (world_of_tree tree).items number)) args)
+    placed p (item_use tree inside number (length args))
+    ∷ map (argument_use tree e) (zip (args_of (slice_get (world_of_tree tree).items number)) args)
 
 -- what a term itself uses, apart from its parts
 abbrev pub shape_uses : SpecTree → List Variable → Bool → TermShape-F TermShape PartTree TermTree → List Placed
-shape_uses tree e inside (shape.Named m) =
-    map (placed m.place) (term_uses (world_of_tree tree) (domains_of tree e) inside (sense_term (sense_of tree e m.name)))
-shape_uses tree e inside (shape.Call m args) =
-    read_uses tree e inside m.place (sense_item (item_count tree) (sense_of tree e m.name)) args
+shape_uses tree e inside (shape.Named m) = name_uses tree e inside m
+shape_uses tree e inside (shape.Call m args) = read_uses tree e inside m.place (sense_item (item_count tree) (sense_of tree e m.name)) args
 shape_uses tree e inside s = []
 
 -- what an occurrence of a term uses, apart from its parts

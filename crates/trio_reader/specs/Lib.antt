@@ -1,4 +1,5 @@
 pub mod Erasure
+pub mod TermKinds
 pub mod Kinds
 pub mod Ranges
 pub mod Reading

@@ -2,9 +2,14 @@
 #![tactic(auto)]
 
 mod building;
+mod declaring;
 mod fault;
+mod kind;
+mod kinds;
 mod laws;
+mod lookup;
 mod sense;
+mod world;
 
 pub use fault::SpecFault;
 pub use laws::{

@@ -1,5 +1,5 @@
 -- What statements declare, one after another.
-use Rattle.std.proofs.Common.{◌≡◌, ℕ, ◌+◌, List, [], ◌∷◌, ◌++◌, length, refl, sym, ap, subst, ◌∙◌, append_assoc, add_assoc, arith}
+use Rattle.std.proofs.Common.{◌≡◌, ℕ, ◌+◌, List, [], ◌∷◌, ◌++◌, length, length-append, refl, sym, ap, subst, ◌∙◌, append_assoc, add_assoc, arith}
 use Rattle.std.proofs.lemmas.List.{append-nil}
 use Rattle.trio_syntax.specs.declared.tree.Mention.{Mention}
 use Rattle.trio_syntax.specs.declared.tree.DomainTree.{DomainTree}
@@ -22,15 +22,21 @@ words-last domain index (v ∷ vs) w =
     ∙ ap (λ n. words_from domain (index + 1) vs ++ declaration w (meaning.Word domain n) ∷ []) (omega arith))
 
 -- domains and items among statements behind others
+pub domains_in-append : (xs ys : List DeclarationTree) → domains_in (xs ++ ys) ≡ domains_in xs ++ domains_in ys
+domains_in-append [] ys = refl
+domains_in-append (statement.Domain d ∷ xs) ys = ap (λ ds. d ∷ ds) (domains_in-append xs ys)
+domains_in-append (statement.Item i ∷ xs) ys = domains_in-append xs ys
+
+pub items_in-append : (xs ys : List DeclarationTree) → items_in (xs ++ ys) ≡ items_in xs ++ items_in ys
+items_in-append [] ys = refl
+items_in-append (statement.Domain d ∷ xs) ys = items_in-append xs ys
+items_in-append (statement.Item i ∷ xs) ys = ap (λ is. i ∷ is) (items_in-append xs ys)
+
 domains-append : (xs ys : List DeclarationTree) → length (domains_in (xs ++ ys)) ≡ length (domains_in xs) + length (domains_in ys)
-domains-append [] ys = omega arith
-domains-append (statement.Domain d ∷ xs) ys = let rest = domains-append xs ys in omega arith
-domains-append (statement.Item i ∷ xs) ys = domains-append xs ys
+domains-append xs ys = ap length (domains_in-append xs ys) ∙ length-append (domains_in xs) (domains_in ys)
 
 items-append : (xs ys : List DeclarationTree) → length (items_in (xs ++ ys)) ≡ length (items_in xs) + length (items_in ys)
-items-append [] ys = omega arith
-items-append (statement.Domain d ∷ xs) ys = items-append xs ys
-items-append (statement.Item i ∷ xs) ys = let rest = items-append xs ys in omega arith
+items-append xs ys = ap length (items_in-append xs ys) ∙ length-append (items_in xs) (items_in ys)
 
 declared-append : (domains items : ℕ) (xs ys : List DeclarationTree) → declared_from domains items (xs ++ ys)
     ≡ declared_from domains items xs ++ declared_from (domains + length (domains_in xs)) (items + length (items_in xs)) ys
