@@ -1,5 +1,5 @@
 -- Kinds of terms, and places of wrong uses, form by form.
-use Rattle.std.proofs.Common.{◌≡◌, ℕ, ℤ, pos, ◌+ℤ◌, Bool, true, false, nat_lt, if◌then◌else◌, List, [], ◌∷◌, ◌++◌, Option, None, Some, length, map, slice_get, refl, ap, sym, ◌∙◌}
+use Rattle.std.proofs.Common.{◌≡◌, ◌⊎◌, ℕ, ℤ, pos, ◌+ℤ◌, Bool, true, false, nat_lt, if◌then◌else◌, List, [], ◌∷◌, ◌++◌, Option, None, Some, length, map, slice_get, refl, ap, sym, ◌∙◌, arith}
 use Rattle.std.proofs.lemmas.List.FromFn.{length-map-range_with_len}
 use Rattle.std.proofs.lemmas.List.{append-nil, length-map}
 use Rattle.std.proofs.lemmas.Grind.{flat_map-append}
@@ -10,7 +10,7 @@ use Rattle.trio_types.specs.declared.spec.Item.{Item}
 use Rattle.trio_types.specs.declared.formula.Term.{Term}
 use Rattle.trio_types.specs.declared.formula.Term.TheVariants as term
 use Rattle.trio_types.specs.World.{World, integers, size_of}
-use Rattle.trio_types.specs.Kinds.{Kind, Use, Gathered, no_kind, number, truth_value, word, kind, kind_in, kind_of_constant, is_right}
+use Rattle.trio_types.specs.Kinds.{Kind, Use, Gathered, no_kind, number, truth_value, word, kind, kind_in, kind_of_constant, is_right, term_uses, in_role, named, argument, of_item, gather_term}
 use Rattle.trio_types.proofs.KindsAt.{gathered-Number, gathered-Value, gathered-Var, gathered-Read, gathered-Sum, gathered-Times}
 use Rattle.trio_reader.specs.declared.kind.TermKind.{TermKind}
 use Rattle.trio_reader.specs.declared.kind.TermKind.TheVariants as code
@@ -24,11 +24,16 @@ use Rattle.trio_syntax.specs.declared.tree.PartTree.{PartTree}
 use Rattle.trio_syntax.specs.declared.tree.SpecTree.{SpecTree}
 use Rattle.trio_scope.specs.declared.walk.Binder.{Binder}
 use Rattle.trio_scope.specs.Gather.{Variable, variables_of}
-use Rattle.trio_scope.specs.Places.{least, unless}
+use Rattle.trio_scope.specs.Places.{earlier, least, unless}
+use Rattle.trio_scope.proofs.Least.{earlier-none, earlier-assoc, least_both}
+use Rattle.std.proofs.Math.Logic.{⊎_elim}
 use Rattle.trio_reader.specs.Erasure.{domain_of, domains_of, world_of_tree, parts_of_tree, shape_of, term_of, part_from, sense_of, sense_term, sense_item, item_count}
 use Rattle.trio_reader.proofs.Erased.{map-map, term-shape, shape-Number, shape-Truth, shape-Named, shape-Call, shape-Sum, shape-Times}
+use Rattle.std.specs.List.{flat_map, zip}
+use Rattle.trio_types.specs.declared.formula.Term.TheOpen as open_term
 use Rattle.std.specs.Option.{option_map}
-use Rattle.trio_reader.specs.Kinds.{Placed, placed, wrong_places, kind_of}
+use Rattle.trio_reader.specs.declared.sense.Sense.{Sense}
+use Rattle.trio_reader.specs.Kinds.{Placed, placed, wrong_places, kind_of, item_use, name_uses, argument_use}
 
 module _ (w : World) (vs : List ℕ) where
   pub kind-no_item : (n : ℕ) (args : List Term) → slice_get w.items n ≡ None → kind w vs (term.Read n args) ≡ no_kind
@@ -127,3 +132,56 @@ module _ (tree : SpecTree) (e : List Variable) (t : TermTree) where
   pub kind-Times : (n : Written) (factor : TermTree) → (out-TermTree t).shape ≡ shape.Times n factor → number ≡ kind_of tree e t
   kind-Times n factor is = sym (kind-shape is ∙ ap (kind (world_of_tree tree) (domains_of tree e)) (shape-Times tree e n factor)
       ∙ ap (λ (g : Gathered). g.kind) (gathered-Times (world_of_tree tree) (domains_of tree e) n.number (term_of tree factor e)))
+
+-- what names alone use
+module _ (w : World) (vs : List ℕ) (inside : Bool) where
+  pub uses-Var : (level : ℕ) → term_uses w vs inside (term.Var level) ≡ in_role named (kind w vs (term.Var level)) ∷ []
+  uses-Var level =
+      ap (λ (g : Gathered). g.uses inside) (gathered-Var w vs level)
+      ∙ sym (ap (λ (g : Gathered). in_role named g.kind ∷ []) (gathered-Var w vs level))
+
+  pub uses-Value : (d v : ℕ) → term_uses w vs inside (term.Value d v) ≡ in_role named (kind_of_constant w d v) ∷ []
+  uses-Value d v = ap (λ (g : Gathered). g.uses inside) (gathered-Value w vs d v)
+
+no_arguments : (w : World) (ds : List ℕ) →
+    map (λ (p : ℕ × Gathered). in_role (argument (kind_in w p.0)) p.1.kind) (zip ds []) ++ flat_map (λ (g : Gathered). g.uses true) [] ≡ []
+no_arguments w [] = refl
+no_arguments w (d ∷ ds) = refl
+
+pub uses-Read : (tree : SpecTree) (vs : List ℕ) (inside : Bool) (n : ℕ) → term_uses (world_of_tree tree) vs inside (term.Read n []) ≡ item_use tree inside n 0 ∷ []
+uses-Read tree vs inside n = ap (λ (g : Gathered). g.uses inside) (gathered-Read (world_of_tree tree) vs n []) ∙ by (slice_get (world_of_tree tree).items n) refl
+  where
+    by : (o : Option Item) → slice_get (world_of_tree tree).items n ≡ o →
+        (gather_term (world_of_tree tree) vs (open_term.Read n [])).uses inside ≡ item_use tree inside n 0 ∷ []
+    by None is = rw is refl
+    by (Some item) is = rw is (ap (λ us. of_item inside (Some (length item.args)) 0 ∷ us) (no_arguments (world_of_tree tree) item.args))
+
+pub wrong_name : (tree : SpecTree) (e : List Variable) (inside : Bool) (m : Mention) (s : Sense) → s ≡ sense_of tree e m.name → (u : Use) →
+    term_uses (world_of_tree tree) (domains_of tree e) inside (sense_term s) ≡ u ∷ [] → {b : Bool} → b ≡ is_right u → {r : Option ℕ} →
+    r ≡ least (unless b m.place) → r ≡ least (wrong_places (name_uses tree e inside m))
+wrong_name tree e inside m s is u uses right found =
+    found ∙ ap least (ap (λ b. unless b m.place) right ∙ sym (wrong-one m.place u)
+    ∙ ap (λ us. wrong_places (map (placed m.place) us)) (sym (ap (λ t. term_uses (world_of_tree tree) (domains_of tree e) inside (sense_term t)) (sym is) ∙ uses)))
+
+-- one more argument, in a loop
+pub arguments_next : (tree : SpecTree) (e : List Variable) {d : ℕ} {a : TermTree} {domains ds : List ℕ} {args as_ : List TermTree} →
+    domains ≡ d ∷ ds → args ≡ a ∷ as_ → (first : Option ℕ) → {whole here next : Option ℕ} →
+    whole ≡ earlier first (least (wrong_places (map (argument_use tree e) (zip domains args)))) → {b : Bool} →
+    b ≡ is_right (argument_use tree e (d, a)).use_ → here ≡ least (unless b (out-TermTree a).place) → next ≡ earlier first here →
+    whole ≡ earlier next (least (wrong_places (map (argument_use tree e) (zip ds as_))))
+arguments_next tree e {d = d} {a = a} {ds = ds} {as_ = as_} first_is second_is first {here = here} before right found joined =
+    let rest : List ℕ = wrong_places (map (argument_use tree e) (zip ds as_)) in
+    let own : List ℕ = unless (is_right (argument_use tree e (d, a)).use_) (out-TermTree a).place in
+    before ∙ ap (earlier first) (rw (first_is, second_is)
+    (sym (least_both own rest (found ∙ ap (λ b. least (unless b (out-TermTree a).place)) right) refl refl)))
+    ∙ earlier-assoc first here (least rest) ∙ ap (λ n. earlier n (least rest)) (sym joined)
+
+pub arguments_end : (tree : SpecTree) (e : List Variable) (domains : List ℕ) (args : List TermTree) → (length domains ≡ 0) ⊎ (length args ≡ 0) → (first : Option ℕ) → {whole : Option ℕ} →
+    whole ≡ earlier first (least (wrong_places (map (argument_use tree e) (zip domains args)))) → first ≡ whole
+arguments_end tree e domains args done first is =
+    sym (is ∙ ap (λ ps. earlier first (least (wrong_places (map (argument_use tree e) ps)))) (none domains args done) ∙ earlier-none first)
+  where
+    none : (ds : List ℕ) (ts : List TermTree) → (length ds ≡ 0) ⊎ (length ts ≡ 0) → zip ds ts ≡ []
+    none [] ts done = refl
+    none (d ∷ ds) [] done = refl
+    none (d ∷ ds) (t ∷ ts) done = ⊎_elim (λ no. absurd (omega arith)) (λ no. absurd (omega arith)) done

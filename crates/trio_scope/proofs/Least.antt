@@ -9,7 +9,7 @@ pub earlier-none : (p : Option ℕ) → earlier p None ≡ p
 earlier-none None = refl
 earlier-none (Some p) = refl
 
-earlier-assoc : (p q r : Option ℕ) → earlier p (earlier q r) ≡ earlier (earlier p q) r
+pub earlier-assoc : (p q r : Option ℕ) → earlier p (earlier q r) ≡ earlier (earlier p q) r
 earlier-assoc None q r = refl
 earlier-assoc (Some p) None r = refl
 earlier-assoc (Some p) (Some q) None = refl
