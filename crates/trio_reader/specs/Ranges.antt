@@ -28,11 +28,15 @@ if_large n = unless (nat_le n.number GREATEST_NUMBER) n.place
 abbrev pub instants_places : Written → List ℕ
 instants_places n = unless (nat_lt 0 n.number && nat_le n.number MOST_INSTANTS) n.place
 
+-- there are 1 to 64 numbers from the one to the other
+abbrev pub has_values : ℤ → ℤ → Bool
+has_values low high = int_le low high && int_le (high +ℤ pos 1) (low +ℤ pos MOST_VALUES)
+
 -- a range has 1 to 64 numbers, or its second number is at fault
 abbrev pub range_places : IntTree → IntTree → List ℕ
 range_places low high =
     if_large low.number ++ (if_large high.number
-    ++ unless (int_le (integer_of low) (integer_of high) && int_le (integer_of high +ℤ pos 1) (integer_of low +ℤ pos MOST_VALUES)) high.number.place)
+    ++ unless (has_values (integer_of low) (integer_of high)) high.number.place)
 
 -- the first word behind 64 others
 abbrev pub words_places : List Mention → List ℕ

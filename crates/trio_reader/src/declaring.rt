@@ -1,6 +1,6 @@
 //! Domains and items from the statements of a tree.
 
-ghost use Rattle.std.specs.Prelude.{◌≡◌, [], ◌∷◌, ◌++◌, map, IfOk, OnOk};
+ghost use Rattle.std.specs.Prelude.{◌≡◌, [], ◌∷◌, ◌++◌, map, pos, ◌≤ℤ◌, IfOk, OnOk};
 ghost use Rattle.trio_scope.specs.Names.{domains_in, items_in};
 ghost use Rattle.trio_reader.specs.Erasure.{bool_domain, domain_from, item_from};
 ghost use Rattle.trio_reader.specs.Erasure as spec;
@@ -62,7 +62,8 @@ fn values_kind(alloc: Global, values: &ValuesTree) -> Result<DomainKind, AllocEr
 
 /// The number that an integer is.
 pub fn integer_of(integer: &IntTree) -> i64
-    ensures { result ≡ spec.integer_of integer.now }
+    ensures is { result ≡ spec.integer_of integer.now }
+    ensures high { result ≤ℤ pos 4294967295 }
 {
     let number = i64::from(integer.number.number);
     if integer.minus { -number } else { number }

@@ -8,6 +8,7 @@ mod kind;
 mod kinds;
 mod laws;
 mod lookup;
+mod ranges;
 mod sense;
 mod world;
 
