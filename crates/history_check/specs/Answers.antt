@@ -1,30 +1,7 @@
--- What the readers of histories and the checker answer.
-use Rattle.std.specs.Prelude.{◌≡◌, ℕ, List, Option, None, Some, map, Result, Ok, Err}
-use Rattle.trio_text.specs.declared.token.Token.{Token}
-use Rattle.trio_text.specs.Tokens.{IsTokens, IsLexFault}
-use Rattle.trio_types.specs.World.{World}
+-- What the checker answers.
+use Rattle.std.specs.Prelude.{ℕ, Option, None, Some}
 use Rattle.history_check.specs.declared.checker.Verdict.{Verdict}
 use Rattle.history_check.specs.declared.checker.Verdict.TheVariants as verdict
-use Rattle.history_check.specs.declared.table.HistoryFault.{HistoryFault}
-use Rattle.history_check.specs.declared.table.HistoryFault.TheVariants as fault
-use Rattle.history_check.specs.Rows.{lines_of}
-use Rattle.history_check.specs.History.{history_of}
-
--- the text's tokens, line by line, have this answer
-pub record Says (world : World) (text : List ℕ) (answer : Result (List (Option ℕ)) HistoryFault) : Type 0 where
-  pub tokens : List Token
-  pub lexed : IsTokens text tokens
-  pub answered : history_of world (lines_of text tokens) ≡ answer
-
--- the text is this given history, or has this first fault: bytes that begin no token come before all else
-abbrev pub IsHistory : World → List ℕ → Result (List (Option ℕ)) HistoryFault → Type 0
-IsHistory world text (Err (fault.Lex place)) = IsLexFault text place
-IsHistory world text (Err fault.Memory) = Unit {0}
-IsHistory world text answer = Says world text answer
-
--- the text is a history in which every value is known, and these are the values
-abbrev pub IsTableText : World → List ℕ → List ℕ → Type 0
-IsTableText world text table = Says world text (Ok (map Some table))
 
 -- the verdict of a first false axiom and instant, where there is one
 abbrev pub verdict_of : Option (ℕ × ℕ) → Verdict

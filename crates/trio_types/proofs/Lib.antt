@@ -7,3 +7,11 @@ pub mod BoundsAt
 pub mod CountsAt
 pub mod ShapeAt
 pub mod NamesAt
+pub mod Integers
+pub mod Domains
+pub mod Specs
+pub mod CellNumbers
+pub mod Operators
+pub mod CellOrder
+pub mod Atoms
+pub mod Verdicts

@@ -4,10 +4,13 @@ use Rattle.std.specs.List.{list_all, list_any}
 use Rattle.std.specs.Option.{option_map}
 use Rattle.std.proofs.lemmas.List.Folds.{list_all-map}
 use Rattle.trio_base.specs.declared.operators.Rel.{Rel}
+use Rattle.trio_base.specs.declared.operators.OneOp.{OneOp}
 use Rattle.trio_base.specs.declared.operators.OneOp.TheVariants as one
 use Rattle.trio_base.specs.declared.operators.Ends.{Ends}
 use Rattle.trio_base.specs.declared.operators.Ends.TheVariants as ends
+use Rattle.trio_base.specs.declared.operators.FarOp.{FarOp}
 use Rattle.trio_base.specs.declared.operators.FarOp.TheVariants as far
+use Rattle.trio_base.specs.declared.operators.PairOp.{PairOp}
 use Rattle.trio_base.specs.declared.operators.PairOp.TheVariants as pair
 use Rattle.trio_types.specs.declared.formula.Term.{Term}
 use Rattle.trio_types.specs.declared.formula.Formula.{Formula}
@@ -18,7 +21,7 @@ use Rattle.trio_types.specs.declared.formula.Formula.TheFolds.{fold-roll-Formula
 use Rattle.trio_types.specs.declared.formula.Formula.TheViews.{roll-Formula}
 use Rattle.trio_types.specs.World.{World, instants_of, values_in}
 use Rattle.trio_types.specs.Values.{value}
-use Rattle.trio_types.specs.Truth.{Truth, truth, formula_truth, is_value, relates, is_iff, after, before, between, at_distance, is_not_negative, ahead, behind}
+use Rattle.trio_types.specs.Truth.{Truth, truth, formula_truth, is_value, relates, is_iff, after, before, between, at_distance, is_not_negative, ahead, behind, one_truth, far_truth, pair_truth}
 use Rattle.trio_types.proofs.Lists.{list_any-map}
 
 truth_at : (w : World) {f : Formula} (x : Formula-F Formula) → roll-Formula x ≡ f → truth w f ≡ formula_truth w (map-Formula Formula Truth (truth w) x)
@@ -102,3 +105,15 @@ truth-Until w f g e t i = ap (λ f. f e t i) (truth_at w (open_formula.Pair pair
 
 pub truth-Since : (w : World) (f g : Formula) (e : List ℤ) (t : List ℕ) (i : ℕ) → truth w (formula.Pair pair.Since f g) e t i ≡ list_any (λ j. truth w g e t j && list_all (λ k. truth w f e t k) (between w j i)) (before w i)
 truth-Since w f g e t i = ap (λ f. f e t i) (truth_at w (open_formula.Pair pair.Since f g) (formula.rolls-Pair pair.Since f g))
+
+-- any operator
+pub truth-One : (w : World) (o : OneOp) (f : Formula) (e : List ℤ) (t : List ℕ) (i : ℕ) → truth w (formula.One o f) e t i ≡ one_truth w o (truth w f e t) i
+truth-One w o f e t i = ap (λ f. f e t i) (truth_at w (open_formula.One o f) (formula.rolls-One o f))
+
+pub truth-Far : (w : World) (o : FarOp) (f : Formula) (x : Term) (e : List ℤ) (t : List ℕ) (i : ℕ) →
+    truth w (formula.Far o f x) e t i ≡ far_truth w o (truth w f e t) i (value w x e t i)
+truth-Far w o f x e t i = ap (λ f. f e t i) (truth_at w (open_formula.Far o f x) (formula.rolls-Far o f x))
+
+pub truth-Pair : (w : World) (o : PairOp) (f g : Formula) (e : List ℤ) (t : List ℕ) (i : ℕ) →
+    truth w (formula.Pair o f g) e t i ≡ pair_truth w o (truth w f e t) (truth w g e t) i
+truth-Pair w o f g e t i = ap (λ f. f e t i) (truth_at w (open_formula.Pair o f g) (formula.rolls-Pair o f g))

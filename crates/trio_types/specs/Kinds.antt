@@ -68,7 +68,7 @@ kind_of_item world None = no_kind
 kind_of_item world (Some item) = kind_in world item.value
 
 -- a value is one of bool or of words, below the domain's size
-abbrev kind_if_constant : Bool → Kind → Kind
+abbrev pub kind_if_constant : Bool → Kind → Kind
 kind_if_constant is_below no_kind = no_kind
 kind_if_constant is_below number = no_kind
 kind_if_constant true kind = kind
@@ -127,12 +127,12 @@ pub record Gathered : Type 0 where
   pub kind : Kind
   pub uses : Bool → List Use
 
-abbrev args_of : Option Item → List ℕ
+abbrev pub args_of : Option Item → List ℕ
 args_of None = []
 args_of (Some item) = item.args
 
 -- each argument that has a domain, as one of that domain
-abbrev argument_uses : World → List ℕ → List Gathered → List Use
+abbrev pub argument_uses : World → List ℕ → List Gathered → List Use
 argument_uses world ds args = map (λ p. in_role (argument (kind_in world p.0)) p.1.kind) (zip ds args)
 
 -- a term's own uses, then those of its parts

@@ -12,3 +12,4 @@ pub mod Nest
 pub mod Limits
 pub mod WellFormed
 pub mod Verdict
+pub mod Laws

@@ -5,10 +5,13 @@ use Rattle.std.specs.Option.{option_map}
 use Rattle.std.specs.Ordering.{int_eq}
 use Rattle.trio_base.specs.declared.operators.Rel.{Rel}
 use Rattle.trio_base.specs.declared.operators.Rel.TheVariants as rel
+use Rattle.trio_base.specs.declared.operators.OneOp.{OneOp}
 use Rattle.trio_base.specs.declared.operators.OneOp.TheVariants as one
 use Rattle.trio_base.specs.declared.operators.Ends.{Ends}
 use Rattle.trio_base.specs.declared.operators.Ends.TheVariants as ends
+use Rattle.trio_base.specs.declared.operators.FarOp.{FarOp}
 use Rattle.trio_base.specs.declared.operators.FarOp.TheVariants as far
+use Rattle.trio_base.specs.declared.operators.PairOp.{PairOp}
 use Rattle.trio_base.specs.declared.operators.PairOp.TheVariants as pair
 use Rattle.trio_types.specs.declared.formula.Formula.{Formula}
 use Rattle.trio_types.specs.declared.formula.Formula.TheOpen.{Formula-F}
@@ -100,6 +103,34 @@ ahead world s i d = filter (is_ahead s i d) (instants_of world)
 abbrev pub behind : World → Ends → ℕ → Option ℤ → List ℕ
 behind world s i d = filter (is_behind s i d) (instants_of world)
 
+-- an operator on what is true at which instants, at i
+abbrev pub one_truth : World → OneOp → (ℕ → Bool) → ℕ → Bool
+one_truth world one.Alw f i = list_all f (instants_of world)
+one_truth world one.Som f i = list_any f (instants_of world)
+one_truth world one.AlwF f i = list_all f (after world i)
+one_truth world one.SomF f i = list_any f (after world i)
+one_truth world one.AlwP f i = list_all f (before world i)
+one_truth world one.SomP f i = list_any f (before world i)
+
+-- the same at a distance
+abbrev pub far_truth : World → FarOp → (ℕ → Bool) → ℕ → Option ℤ → Bool
+far_truth world far.Dist f i d = list_any f (at_distance world i d)
+far_truth world far.Futr f i d = is_not_negative d && list_any f (at_distance world i d)
+far_truth world far.Past f i d = is_not_negative d && list_any f (at_distance world i (option_map neg_ℤ d))
+far_truth world (far.Lasts s) f i d = list_all f (ahead world s i d)
+far_truth world (far.WithinF s) f i d = list_any f (ahead world s i d)
+far_truth world (far.Lasted s) f i d = list_all f (behind world s i d)
+far_truth world (far.WithinP s) f i d = list_any f (behind world s i d)
+far_truth world far.NextTime f i d =
+    (is_not_negative d && list_any f (at_distance world i d)) && list_all (λ j. not (f j)) (ahead world ends.Bare i d)
+far_truth world far.LastTime f i d =
+    (is_not_negative d && list_any f (at_distance world i (option_map neg_ℤ d))) && list_all (λ j. not (f j)) (behind world ends.Bare i d)
+
+-- the same of two
+abbrev pub pair_truth : World → PairOp → (ℕ → Bool) → (ℕ → Bool) → ℕ → Bool
+pair_truth world pair.Until f g i = list_any (λ j. g j && list_all f (between world i j)) (after world i)
+pair_truth world pair.Since f g i = list_any (λ j. g j && list_all f (between world j i)) (before world i)
+
 abbrev pub formula_truth : World → Formula-F Truth → Truth
 formula_truth world (open_formula.Lone x) e t i = is_value (pos 1) (value world x e t i)
 formula_truth world (open_formula.Compare r x y) e t i = relates r (value world x e t i) (value world y e t i)
@@ -110,31 +141,9 @@ formula_truth world (open_formula.Implies f g) e t i = not (f e t i) || g e t i
 formula_truth world (open_formula.Iff f g) e t i = is_iff (f e t i) (g e t i)
 formula_truth world (open_formula.All name d f) e t i = list_all (λ v. f (e ++ v ∷ []) t i) (values_in world.domains d)
 formula_truth world (open_formula.Ex name d f) e t i = list_any (λ v. f (e ++ v ∷ []) t i) (values_in world.domains d)
-formula_truth world (open_formula.One one.Alw f) e t i = list_all (λ j. f e t j) (instants_of world)
-formula_truth world (open_formula.One one.Som f) e t i = list_any (λ j. f e t j) (instants_of world)
-formula_truth world (open_formula.One one.AlwF f) e t i = list_all (λ j. f e t j) (after world i)
-formula_truth world (open_formula.One one.SomF f) e t i = list_any (λ j. f e t j) (after world i)
-formula_truth world (open_formula.One one.AlwP f) e t i = list_all (λ j. f e t j) (before world i)
-formula_truth world (open_formula.One one.SomP f) e t i = list_any (λ j. f e t j) (before world i)
-formula_truth world (open_formula.Far far.Dist f x) e t i = list_any (λ j. f e t j) (at_distance world i (value world x e t i))
-formula_truth world (open_formula.Far far.Futr f x) e t i =
-    is_not_negative (value world x e t i) && list_any (λ j. f e t j) (at_distance world i (value world x e t i))
-formula_truth world (open_formula.Far far.Past f x) e t i =
-    is_not_negative (value world x e t i) && list_any (λ j. f e t j) (at_distance world i (option_map neg_ℤ (value world x e t i)))
-formula_truth world (open_formula.Far (far.Lasts s) f x) e t i = list_all (λ j. f e t j) (ahead world s i (value world x e t i))
-formula_truth world (open_formula.Far (far.WithinF s) f x) e t i = list_any (λ j. f e t j) (ahead world s i (value world x e t i))
-formula_truth world (open_formula.Far (far.Lasted s) f x) e t i = list_all (λ j. f e t j) (behind world s i (value world x e t i))
-formula_truth world (open_formula.Far (far.WithinP s) f x) e t i = list_any (λ j. f e t j) (behind world s i (value world x e t i))
-formula_truth world (open_formula.Far far.NextTime f x) e t i =
-    (is_not_negative (value world x e t i) && list_any (λ j. f e t j) (at_distance world i (value world x e t i)))
-    && list_all (λ j. not (f e t j)) (ahead world ends.Bare i (value world x e t i))
-formula_truth world (open_formula.Far far.LastTime f x) e t i =
-    (is_not_negative (value world x e t i) && list_any (λ j. f e t j) (at_distance world i (option_map neg_ℤ (value world x e t i))))
-    && list_all (λ j. not (f e t j)) (behind world ends.Bare i (value world x e t i))
-formula_truth world (open_formula.Pair pair.Until f g) e t i =
-    list_any (λ j. g e t j && list_all (λ k. f e t k) (between world i j)) (after world i)
-formula_truth world (open_formula.Pair pair.Since f g) e t i =
-    list_any (λ j. g e t j && list_all (λ k. f e t k) (between world j i)) (before world i)
+formula_truth world (open_formula.One o f) e t i = one_truth world o (f e t) i
+formula_truth world (open_formula.Far o f x) e t i = far_truth world o (f e t) i (value world x e t i)
+formula_truth world (open_formula.Pair o f g) e t i = pair_truth world o (f e t) (g e t) i
 
 -- the truth of a formula
 unfoldable pub truth : World → Formula → Truth

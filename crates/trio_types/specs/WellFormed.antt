@@ -44,12 +44,11 @@ ends_are_written (kind.Range low high) = is_written low && is_written high
 ends_are_written values = true
 
 -- 1 to 64 values
-abbrev pub domain_fits : Domain → Bool
-domain_fits domain =
-    ends_are_written domain.kind && (nat_lt 0 (length (values_of domain.kind)) && nat_le (length (values_of domain.kind)) MOST_VALUES)
+abbrev pub values_fit : DomainKind → Bool
+values_fit values = ends_are_written values && (nat_lt 0 (length (values_of values)) && nat_le (length (values_of values)) MOST_VALUES)
 
 abbrev pub domains_fit : Parts → Bool
-domains_fit parts = list_all domain_fits parts.domains
+domains_fit parts = list_all (λ domain. values_fit domain.kind) parts.domains
 
 -- 0 to 4 arguments
 abbrev pub items_fit : Parts → Bool
