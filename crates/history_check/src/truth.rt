@@ -9,7 +9,7 @@ ghost use Rattle.trio_types.specs.Truth.{truth, is_value, relates, is_iff, far_t
 ghost use Rattle.trio_types.specs.Verdict.{world_of};
 ghost use Rattle.history_check.specs.Fits.{FormulaFits, AllFit, QuantifierFits, IsNear, IsWindowOf};
 
-use crate::checker::Table;
+use history_table::Table;
 use crate::terms::value_of;
 use crate::window::{Window, ahead, at_distance, behind, in_future, in_past};
 use trio_base::limits::MOST_OPEN;
