@@ -36,7 +36,7 @@ read_once (n ∷ ns) (l ∷ ls) are =
     ∙ ap (λ ps. l ∷ ps) (read_once ns ls are.2)
 
 -- the faults that lines have
-OfLine : HistFault → Type 0
+unfoldable pub OfLine : HistFault → Type 0
 OfLine (fault.Lex place) = ⊥
 OfLine (fault.MissingRow row) = ⊥
 OfLine fault.Memory = ⊥
@@ -60,7 +60,7 @@ unfolding OfLine
 of_read w taken number None f is = subst OfLine (same_Some _ _ is) tt
 of_read w taken number (Some line) f is = of_row w taken number line (named_row w line) f is
 
-of_lines : (w : World) (earlier lines : List Placed) (f : HistFault) → lines_fault w earlier lines ≡ Some f → OfLine f
+pub of_lines : (w : World) (earlier lines : List Placed) (f : HistFault) → lines_fault w earlier lines ≡ Some f → OfLine f
 unfolding lines_fault
 of_lines w earlier [] f is = cc
 of_lines w earlier (p ∷ ps) f is = go (line_fault w earlier p) refl (of_lines w (earlier ++ p ∷ []) ps f) is

@@ -5,6 +5,6 @@ mod LineSteps
 mod Arguments
 mod RowNumbers
 mod Fits
-mod Answered
+pub mod Answered
 mod PrintedValues
 mod Whole

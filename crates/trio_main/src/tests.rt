@@ -12,7 +12,7 @@ ghost use Rattle.trio_main.specs.Due.{Due};
 use super::*;
 use crate::fault::{Fault, Text};
 use crate::message::say;
-use history_check::table::HistFault;
+use history_table::HistFault;
 use std::alloc::{AllocError, Global};
 use std::process::Abort;
 use std::test::Fail;
