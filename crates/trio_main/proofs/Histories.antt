@@ -1,11 +1,11 @@
 -- Given histories: the row that a fault names, the first unknown cell, and the table that they are.
-use Rattle.std.proofs.Common.{◌≡◌, ℕ, ◌<◌, Bool, true, nat_lt, ◌&&◌, List, [], ◌∷◌, length, map, Option, None, Some, Result, Ok, Err, refl, sym, ◌∙◌, ap, subst, arith, not}
-use Rattle.std.specs.Prelude.{position, is_none}
+use Rattle.std.proofs.Common.{◌≡◌, ℕ, ◌<◌, nat_lt, ◌&&◌, List, [], ◌∷◌, length, map, Option, None, Some, Err, refl, sym, ◌∙◌, ap, subst, arith, not}
+use Rattle.std.specs.Prelude.{is_none}
 use Rattle.std.specs.List.{list_all, zip}
 use Rattle.std.proofs.lemmas.List.{length-map}
 use Rattle.std.proofs.lemmas.List.Quantifiers.{position-Some}
 use Rattle.trio_types.specs.World.{World}
-use Rattle.trio_types.specs.Cells.{Row, Cell, rows_of, cells_of, cell_size, IsTable}
+use Rattle.trio_types.specs.Cells.{Cell, rows_of, cells_of, cell_size, IsTable}
 use Rattle.history_table.specs.declared.fault.HistFault.{HistFault}
 use Rattle.history_table.specs.declared.fault.HistFault.TheVariants as fault
 use Rattle.history_table.specs.Lines.{Placed}

@@ -4,7 +4,7 @@ use Rattle.std.specs.Prelude.{IsSomeAnd}
 use Rattle.trio_io.specs.Outside.{ShelfView}
 use Rattle.trio_types.specs.declared.spec.Spec.{Spec}
 use Rattle.trio_types.specs.World.{World}
-use Rattle.trio_types.specs.Parts.{Parts, world_of_parts}
+use Rattle.trio_types.specs.Parts.{world_of_parts}
 use Rattle.trio_types.specs.Verdict.{parts_of, world_of}
 use Rattle.trio_reader.specs.Laws.{OneSpecification, OneFault, FaultyIsNone}
 use Rattle.history_table.specs.declared.fault.HistFault.TheVariants as history_fault

@@ -1,5 +1,5 @@
 -- The row of a cell is one of the specification's.
-use Rattle.std.proofs.Common.{length, inl, ap, arith}
+use Rattle.std.proofs.Common.{length, arith}
 use Rattle.std.proofs.lemmas.Nat.{div_below}
 use Rattle.trio_types.specs.Cells.{rows_of}
 use Rattle.trio_types.specs.Verdict.{parts_of, world_of}

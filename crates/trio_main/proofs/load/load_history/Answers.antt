@@ -1,5 +1,5 @@
 -- A row that is missing is one of the specification's.
-use Rattle.std.proofs.Common.{◌≡◌, Err, ◌∙◌, ap, subst, Result, List, Option, ℕ}
+use Rattle.std.proofs.Common.{Err, subst}
 use Rattle.trio_types.specs.Verdict.{world_of}
 use Rattle.history_table.specs.declared.fault.HistFault.{HistFault}
 use Rattle.history_table.specs.History.{IsHistoryAnswer}
