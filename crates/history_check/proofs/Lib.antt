@@ -1,9 +1,7 @@
 -- The lemmas of the crate.
-pub mod Terms
-pub mod Formulas
+pub mod Windows
+pub mod TermsFit
+pub mod FormulasFit
+pub mod Searches
 pub mod Axioms
-pub mod RowEntries
-pub mod LineRuns
-pub mod LineSteps
-pub mod RowAnswers
-pub mod RowFits
+pub mod AxiomsFit

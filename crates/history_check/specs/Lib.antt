@@ -1,4 +1,2 @@
-pub mod Rows
-pub mod History
 pub mod Answers
-pub mod RowReading
+pub mod Fits

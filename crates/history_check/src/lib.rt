@@ -1,7 +1,9 @@
-//! Histories, and whether a complete one makes a specification true.
+//! Whether a table makes a specification true.
 #![tactic(auto)]
 
 mod checker;
-pub mod table;
+mod terms;
+mod truth;
+mod window;
 
 pub use checker::{Verdict, check};

@@ -1,16 +1,19 @@
 -- For told files one answer of `check` is due.
 use Rattle.std.proofs.Common.{◌≡◌, ℕ, zero, suc, inl, inr, true, false, List, [], ◌∷◌, get_or, Option, Some, refl, sym, ◌∙◌, ap}
 use Rattle.std.proofs.Math.Path.{ap₂}
-use Rattle.std.specs.Prelude.{map, position, is_none}
+use Rattle.std.specs.Prelude.{map, is_none}
 use Rattle.std.proofs.lemmas.List.Quantifiers.{position-Some}
 use Rattle.trio_io.specs.Outside.{ShelfView}
 use Rattle.trio_types.specs.declared.spec.Spec.{Spec}
-use Rattle.trio_types.specs.Verdict.{first_false}
+use Rattle.trio_types.specs.Parts.{Parts}
+use Rattle.trio_types.specs.Verdict.{parts_of, first_false}
 use Rattle.trio_types.proofs.Verdicts.{first_false_is}
-use Rattle.trio_reader.specs.Laws.{SameSpec, OneSpecification, OneFault, FaultyIsNone}
+use Rattle.trio_reader.specs.Laws.{OneSpecification, OneFault, FaultyIsNone}
 use Rattle.history_check.specs.declared.checker.Verdict.{Verdict}
 use Rattle.history_check.specs.declared.checker.Verdict.TheVariants as verdict
-use Rattle.history_check.specs.Answers.{OneHistory, verdict_of}
+use Rattle.history_check.specs.Answers.{verdict_of}
+use Rattle.history_table.specs.History.{OneHistory}
+use Rattle.history_table.specs.Fitting.{first_unknown}
 use Rattle.trio_main.specs.declared.status.Status.{Status}
 use Rattle.trio_main.specs.declared.fault.Fault.{Fault}
 use Rattle.trio_main.specs.Fault.{status_of}
@@ -18,13 +21,16 @@ use Rattle.trio_main.specs.Message.{message}
 use Rattle.trio_main.specs.Check.{UnknownFault, CheckFault, IsVerdict, CheckDue, unknown_fault, verdict_status, verdict_text}
 use Rattle.trio_main.proofs.Yielded.{same_world, load_fault_one, fault_or_loaded, loaded_one}
 
-first_false_same : (a b : Spec) (table : List ℕ) → SameSpec a b → first_false a table ≡ first_false b table
-first_false_same a b table same =
-    first_false_is a table ∙ rw (same_world a b same, same.axioms) (sym (first_false_is b table))
+same_axioms : (a b : Spec) → parts_of a ≡ parts_of b → a.axioms ≡ b.axioms
+same_axioms a b same = ap (λ (parts : Parts). parts.axioms) same
 
-text_same : (a b : Spec) (v : Verdict) → SameSpec a b → verdict_text a v ≡ verdict_text b v
+first_false_same : (a b : Spec) (table : List ℕ) → parts_of a ≡ parts_of b → first_false a table ≡ first_false b table
+first_false_same a b table same =
+    first_false_is a table ∙ rw (same_world a b same, same_axioms a b same) (sym (first_false_is b table))
+
+text_same : (a b : Spec) (v : Verdict) → parts_of a ≡ parts_of b → verdict_text a v ≡ verdict_text b v
 text_same a b verdict.True same = refl
-text_same a b (verdict.False number instant) same = rw (same.axioms) refl
+text_same a b (verdict.False number instant) same = rw (same_axioms a b same) refl
 
 known_one : (xs ys : List ℕ) → map Some xs ≡ map Some ys → xs ≡ ys
 known_one [] [] e = refl
@@ -40,7 +46,7 @@ known_at [] i = refl
 known_at (x ∷ xs) zero = refl
 known_at (x ∷ xs) (suc i) = known_at xs i
 
-none_unknown : (given : List (Option ℕ)) (xs : List ℕ) (cell : ℕ) → given ≡ map Some xs → position is_none given ≡ Some cell → ⊥
+none_unknown : (given : List (Option ℕ)) (xs : List ℕ) (cell : ℕ) → given ≡ map Some xs → first_unknown given ≡ Some cell → ⊥
 none_unknown given xs cell known first =
     let at = position-Some is_none (map Some xs) cell (Some 0) (rw known at first) in
     let wrong : true ≡ false = sym at.1 ∙ known_at xs cell in cc
@@ -50,7 +56,7 @@ module _ (one_spec : OneSpecification) (one_fault : OneFault) (none : FaultyIsNo
   unknown_one : (shelf : ShelfView) (s h : List ℕ) (f g : Fault) → shelf.tells ≡ true → UnknownFault shelf s h f → UnknownFault shelf s h g → f ≡ g
   unknown_one shelf s h f g told x y =
       let same = loaded_one one_spec one_fault none one_history shelf s h x.spec y.spec x.given y.given told x.loaded y.loaded in
-      let cells : Some x.unknown.cell ≡ Some y.unknown.cell = sym x.unknown.first ∙ ap (position is_none) same.1 ∙ y.unknown.first in
+      let cells : Some x.unknown.cell ≡ Some y.unknown.cell = sym x.unknown.first ∙ ap first_unknown same.1 ∙ y.unknown.first in
       let cell : x.unknown.cell ≡ y.unknown.cell = cc in
       x.unknown.is ∙ ap₂ unknown_fault (same_world x.spec y.spec same.0) cell ∙ sym y.unknown.is
 
@@ -71,7 +77,7 @@ module _ (one_spec : OneSpecification) (one_fault : OneFault) (none : FaultyIsNo
       none_unknown x.1.given y.table x.1.unknown.cell same.1 x.1.unknown.first
 
   verdict_one : (shelf : ShelfView) (s h : List ℕ) (a b : Spec) (v u : Verdict) → shelf.tells ≡ true → IsVerdict shelf s h a v →
-      IsVerdict shelf s h b u → SameSpec a b × (v ≡ u)
+      IsVerdict shelf s h b u → (parts_of a ≡ parts_of b) × (v ≡ u)
   verdict_one shelf s h a b v u told x y =
       let same = loaded_one one_spec one_fault none one_history shelf s h a b (map Some x.table) (map Some y.table) told x.loaded y.loaded in
       let tables = known_one x.table y.table same.1 in

@@ -5,8 +5,8 @@ use Rattle.trio_types.specs.World.{World}
 use Rattle.trio_types.specs.Verdict.{world_of}
 use Rattle.trio_reader.specs.declared.fault.SpecFault.{SpecFault}
 use Rattle.trio_reader.specs.declared.fault.SpecFault.TheVariants as spec_fault
-use Rattle.history_check.specs.declared.table.HistFault.{HistFault}
-use Rattle.history_check.specs.declared.table.HistFault.TheVariants as history_fault
+use Rattle.history_table.specs.declared.fault.HistFault.{HistFault}
+use Rattle.history_table.specs.declared.fault.HistFault.TheVariants as history_fault
 use Rattle.trio_main.specs.declared.status.Status.{Status}
 use Rattle.trio_main.specs.declared.status.Status.TheVariants as status
 use Rattle.trio_main.specs.declared.fault.Text.{Text}

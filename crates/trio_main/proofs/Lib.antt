@@ -2,6 +2,7 @@ pub mod CheckOne
 pub mod CheckTold
 pub mod Checks
 pub mod FileFaults
+pub mod Histories
 pub mod Jobs
 pub mod Loaded
 pub mod Pieces

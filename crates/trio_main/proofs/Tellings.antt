@@ -2,7 +2,7 @@
 use Rattle.std.proofs.Common.{◌≡◌, ℕ, ◌<◌, ◌⊎◌, inl, inr, true, List, Option, None, Some, refl, sym, ◌∙◌, arith}
 use Rattle.trio_io.specs.Outside.{ShelfView, SinkView, Rose, Writes}
 use Rattle.trio_reader.specs.Laws.{OneSpecification, OneFault, FaultyIsNone}
-use Rattle.history_check.specs.Answers.{OneHistory}
+use Rattle.history_table.specs.History.{OneHistory}
 use Rattle.trio_main.specs.declared.status.Status.{Status}
 use Rattle.trio_main.specs.declared.status.Status.TheVariants as status
 use Rattle.trio_main.specs.declared.fault.Fault.TheVariants as fault

@@ -4,18 +4,19 @@ use Rattle.std.specs.Prelude.{IsSomeAnd}
 use Rattle.trio_io.specs.Outside.{ShelfView}
 use Rattle.trio_types.specs.declared.spec.Spec.{Spec}
 use Rattle.trio_types.specs.World.{World}
-use Rattle.trio_types.specs.Verdict.{world_of}
-use Rattle.trio_reader.specs.Laws.{SameSpec, OneSpecification, OneFault, FaultyIsNone}
-use Rattle.history_check.specs.declared.table.HistFault.TheVariants as history_fault
-use Rattle.history_check.specs.Answers.{OneHistory}
+use Rattle.trio_types.specs.Parts.{world_of_parts}
+use Rattle.trio_types.specs.Verdict.{parts_of, world_of}
+use Rattle.trio_reader.specs.Laws.{OneSpecification, OneFault, FaultyIsNone}
+use Rattle.history_table.specs.declared.fault.HistFault.TheVariants as history_fault
+use Rattle.history_table.specs.History.{OneHistory}
 use Rattle.trio_main.specs.declared.fault.Text.{Text}
 use Rattle.trio_main.specs.declared.fault.Text.TheVariants as text
 use Rattle.trio_main.specs.declared.fault.Fault.{Fault}
 use Rattle.trio_main.specs.Fault.{spec_refusal, history_refusal}
 use Rattle.trio_main.specs.Load.{limit_of, IsFile, FileFault, Yields, ReadsSpec, ReadsHistory, YieldsSpec, YieldsHistory, LoadFault, IsLoaded}
 
-pub same_world : (a b : Spec) → SameSpec a b → world_of a ≡ world_of b
-same_world a b same = rw (same.instants, same.domains, same.items) refl
+pub same_world : (a b : Spec) → parts_of a ≡ parts_of b → world_of a ≡ world_of b
+same_world a b same = ap world_of_parts same
 
 some_is : {A : Type 0} {x y : A} {o : Option A} → o ≡ Some x → o ≡ Some y → x ≡ y
 some_is p q = cc
@@ -52,9 +53,9 @@ yields_one parts same which shelf name a b told faults one (inr x) (inl y) = abs
 yields_one parts same which shelf name a b told faults one (inr x) (inr y) =
     one y.bytes (rw (some_is (x.there told) (y.there told)) at x.said) y.said
 
--- one specification up to places, or one fault
+-- one specification, or one fault
 SameReading : Result Spec Fault → Result Spec Fault → Type 0
-SameReading (Ok a) (Ok b) = SameSpec a b
+SameReading (Ok a) (Ok b) = parts_of a ≡ parts_of b
 SameReading (Err f) (Err g) = f ≡ g
 SameReading a b = ⊥
 
@@ -114,10 +115,10 @@ module _ (one_spec : OneSpecification) (one_fault : OneFault) (none : FaultyIsNo
 
   -- they are one specification, and one given history
   pub loaded_one : (shelf : ShelfView) (s h : List ℕ) (a b : Spec) (given other : List (Option ℕ)) → shelf.tells ≡ true →
-      IsLoaded shelf s h a given → IsLoaded shelf s h b other → SameSpec a b × (given ≡ other)
+      IsLoaded shelf s h a given → IsLoaded shelf s h b other → (parts_of a ≡ parts_of b) × (given ≡ other)
   unfolding SameReading
   loaded_one shelf s h a b given other told x y =
-      let specs : SameSpec a b = spec_one shelf s (Ok a) (Ok b) told x.first y.first in
+      let specs : parts_of a ≡ parts_of b = spec_one shelf s (Ok a) (Ok b) told x.first y.first in
       let same : Ok given ≡ Ok other =
       history_one (world_of b) shelf h (Ok given) (Ok other) told (subst (λ w. YieldsHistory w shelf h (Ok given)) (same_world a b specs) x.second) y.second in
       (specs, let one : given ≡ other = cc in one)

@@ -1,5 +1,5 @@
 -- `check`: whether a history satisfies a specification.
-use Rattle.std.specs.Prelude.{◌≡◌, ℕ, ◌≤◌, ◌+◌, ◌⊎◌, List, [], ◌++◌, Option, None, Some, map, position, is_none, slice_get, codes, decimal, Result, Ok, Err}
+use Rattle.std.specs.Prelude.{◌≡◌, ℕ, ◌≤◌, ◌+◌, ◌⊎◌, List, [], ◌++◌, Option, None, Some, map, slice_get, codes, decimal, Result, Ok, Err}
 use Rattle.trio_io.specs.Outside.{ShelfView, SinkView, Writes}
 use Rattle.trio_types.specs.declared.spec.Axiom.{Axiom}
 use Rattle.trio_types.specs.declared.spec.Spec.{Spec}
@@ -8,6 +8,7 @@ use Rattle.trio_types.specs.Verdict.{world_of, first_false}
 use Rattle.history_check.specs.declared.checker.Verdict.{Verdict}
 use Rattle.history_check.specs.declared.checker.Verdict.TheVariants as verdict
 use Rattle.history_check.specs.Answers.{verdict_of}
+use Rattle.history_table.specs.Fitting.{first_unknown}
 use Rattle.trio_main.specs.declared.answer.Answer.{Answer}
 use Rattle.trio_main.specs.declared.status.Status.{Status}
 use Rattle.trio_main.specs.declared.status.Status.TheVariants as status
@@ -15,7 +16,7 @@ use Rattle.trio_main.specs.declared.fault.Fault.{Fault}
 use Rattle.trio_main.specs.declared.fault.Fault.TheVariants as fault
 use Rattle.trio_main.specs.declared.command.Command.{Command}
 use Rattle.trio_main.specs.declared.command.Command.TheVariants as command
-use Rattle.trio_main.specs.Row.{row_name, row_of, instant_of}
+use Rattle.trio_main.specs.Row.{name_of_row, row_of, instant_of}
 use Rattle.trio_main.specs.Fault.{status_of}
 use Rattle.trio_main.specs.Message.{message, SaysFault}
 use Rattle.trio_main.specs.Text.{text_of}
@@ -48,12 +49,12 @@ pub record SaysVerdict (spec : Spec) (v : Verdict) (s : Status) (text : List ℕ
 
 -- the fault that names a cell
 abbrev pub unknown_fault : World → ℕ → Fault
-unknown_fault world cell = fault.Unknown (row_name world (row_of world cell)) (instant_of world cell)
+unknown_fault world cell = fault.Unknown (name_of_row world (row_of world cell)) (instant_of world cell)
 
 -- the fault that names the first cell of a given history whose value is not known
 pub record IsUnknown (spec : Spec) (given : List (Option ℕ)) (f : Fault) : Type 0 where
   pub cell : ℕ
-  pub first : position is_none given ≡ Some cell
+  pub first : first_unknown given ≡ Some cell
   pub is : f ≡ unknown_fault (world_of spec) cell
 
 -- the answer is the verdict on a given history in which every value is known

@@ -2,13 +2,13 @@
 use Rattle.trio_types.specs.World.{World}
 use Rattle.trio_reader.specs.declared.fault.SpecFault.{SpecFault}
 use Rattle.trio_reader.specs.declared.fault.SpecFault.TheVariants as spec_fault
-use Rattle.history_check.specs.declared.table.HistFault.{HistFault}
-use Rattle.history_check.specs.declared.table.HistFault.TheVariants as history_fault
+use Rattle.history_table.specs.declared.fault.HistFault.{HistFault}
+use Rattle.history_table.specs.declared.fault.HistFault.TheVariants as history_fault
 use Rattle.trio_main.specs.declared.status.Status.{Status}
 use Rattle.trio_main.specs.declared.status.Status.TheVariants as status
 use Rattle.trio_main.specs.declared.fault.Fault.{Fault}
 use Rattle.trio_main.specs.declared.fault.Fault.TheVariants as fault
-use Rattle.trio_main.specs.Row.{row_name}
+use Rattle.trio_main.specs.Row.{name_of_row}
 
 abbrev pub status_of : Fault → Status
 status_of fault.Read = status.ReadFault
@@ -28,5 +28,5 @@ spec_refusal f = fault.Spec f
 -- the refusal of a history's text; a row without a line is named
 abbrev pub history_refusal : World → HistFault → Fault
 history_refusal world history_fault.Memory = fault.Memory
-history_refusal world (history_fault.MissingRow row) = fault.Missing (row_name world row)
+history_refusal world (history_fault.MissingRow row) = fault.Missing (name_of_row world row)
 history_refusal world f = fault.History f

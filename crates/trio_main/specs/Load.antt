@@ -8,9 +8,9 @@ use Rattle.trio_types.specs.Verdict.{world_of}
 use Rattle.trio_reader.specs.declared.fault.SpecFault.{SpecFault}
 use Rattle.trio_reader.specs.declared.fault.SpecFault.TheVariants as spec_fault
 use Rattle.trio_reader.specs.Reading.{IsSpecText, HasFault}
-use Rattle.history_check.specs.declared.table.HistFault.{HistFault}
-use Rattle.history_check.specs.declared.table.HistFault.TheVariants as history_fault
-use Rattle.history_check.specs.Answers.{IsHistory}
+use Rattle.history_table.specs.declared.fault.HistFault.{HistFault}
+use Rattle.history_table.specs.declared.fault.HistFault.TheVariants as history_fault
+use Rattle.history_table.specs.History.{IsHistoryAnswer}
 use Rattle.trio_main.specs.declared.fault.Text.{Text}
 use Rattle.trio_main.specs.declared.fault.Text.TheVariants as text
 use Rattle.trio_main.specs.declared.fault.Fault.{Fault}
@@ -47,8 +47,8 @@ ReadsSpec bytes (Err f) = (g : SpecFault) × (g ≢ spec_fault.Memory) × HasFau
 
 -- the bytes are this given history, or this is their first fault
 abbrev pub ReadsHistory : World → List ℕ → Result (List (Option ℕ)) Fault → Type 0
-ReadsHistory world bytes (Ok given) = IsHistory world bytes (Ok given)
-ReadsHistory world bytes (Err f) = (g : HistFault) × (g ≢ history_fault.Memory) × IsHistory world bytes (Err g) × (f ≡ history_refusal world g)
+ReadsHistory world bytes (Ok given) = IsHistoryAnswer world bytes (Ok given)
+ReadsHistory world bytes (Err f) = (g : HistFault) × (g ≢ history_fault.Memory) × IsHistoryAnswer world bytes (Err g) × (f ≡ history_refusal world g)
 
 abbrev pub YieldsSpec : ShelfView → List ℕ → Result Spec Fault → Type 0
 YieldsSpec = Yields ReadsSpec text.Spec

@@ -1,11 +1,11 @@
 -- What is written for each fault, and where the words are no command.
 use Rattle.std.specs.Prelude.{◌≡◌, ℕ, List, [], ◌++◌, codes, decimal}
-use Rattle.trio_reader.specs.declared.fault.Which.{Which}
-use Rattle.trio_reader.specs.declared.fault.Which.TheVariants as which
+use Rattle.trio_types.specs.declared.spec.Which.{Which}
+use Rattle.trio_types.specs.declared.spec.Which.TheVariants as which
 use Rattle.trio_reader.specs.declared.fault.SpecFault.{SpecFault}
 use Rattle.trio_reader.specs.declared.fault.SpecFault.TheVariants as spec_fault
-use Rattle.history_check.specs.declared.table.HistFault.{HistFault}
-use Rattle.history_check.specs.declared.table.HistFault.TheVariants as history_fault
+use Rattle.history_table.specs.declared.fault.HistFault.{HistFault}
+use Rattle.history_table.specs.declared.fault.HistFault.TheVariants as history_fault
 use Rattle.trio_main.specs.declared.status.Status.{Status}
 use Rattle.trio_main.specs.Fault.{status_of}
 use Rattle.trio_main.specs.declared.fault.Text.{Text}

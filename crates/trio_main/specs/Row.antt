@@ -1,15 +1,13 @@
--- The rows of a history: their names as they are printed, and the places of cells in them.
-use Rattle.std.specs.Prelude.{ℕ, ◌/◌, ◌%◌, List, [], Option, None, Some, slice_get}
-use Rattle.trio_types.specs.declared.spec.Item.{Item}
+-- The names of rows by their numbers, and the places of cells in rows.
+use Rattle.std.specs.Prelude.{ℕ, ◌/◌, ◌%◌, List, [], slice_get}
+use Rattle.std.specs.Option.{option_map, unwrap_or}
 use Rattle.trio_types.specs.World.{World}
+use Rattle.trio_types.specs.Cells.{rows_of}
+use Rattle.history_table.specs.Printed.{row_name}
 
-abbrev name_of : Option Item → List ℕ
-name_of None = []
-name_of (Some item) = item.name
-
--- the name of the row of this number: that of its item, which has no arguments
-abbrev pub row_name : World → ℕ → List ℕ
-row_name world row = name_of (slice_get world.items row)
+-- the printed name of the row of this number
+abbrev pub name_of_row : World → ℕ → List ℕ
+name_of_row world row = unwrap_or (option_map (row_name world) (slice_get (rows_of world) row)) []
 
 -- the number of the row that a cell stands in
 abbrev pub row_of : World → ℕ → ℕ

@@ -1,8 +1,9 @@
 //! `check`: whether a history satisfies a specification.
-ghost use Rattle.std.specs.Prelude.{◌≡◌, ◌⊎◌, ℕ, ◌++◌, List, Some, IfOk, map, string_bytes, slice_get, codes, decimal};
+ghost use Rattle.std.specs.Prelude.{◌≡◌, ◌<◌, ◌⊎◌, ◌++◌, length, Some, IfOk, string_bytes, slice_get, codes, decimal};
 ghost use Rattle.trio_io.specs.Outside.{OnlyReads};
 ghost use Rattle.trio_types.specs.Verdict.{world_of, first_false};
-ghost use Rattle.trio_types.specs.Cells.{IsTable};
+ghost use Rattle.trio_types.specs.Cells.{cells_of, IsTable};
+ghost use Rattle.history_table.specs.Fitting.{IsGiven};
 ghost use Rattle.history_check.specs.Answers.{verdict_of};
 ghost use Rattle.trio_main.specs.Check.{name_of, SaysVerdict, unknown_fault, Judges};
 ghost use Rattle.trio_main.specs.Answer.{Computes, Ends};
@@ -12,14 +13,13 @@ ghost use Rattle.trio_main.specs.declared.command.Command.{Command};
 use crate::answer::{Answer, give};
 use crate::fault::Fault;
 use crate::load::{load_history, load_spec};
-use crate::row::{row_and_instant, row_name};
 use crate::status::Status;
-use history_check::table::{Given, Table, Values, whole};
 use history_check::{Verdict, check};
+use history_table::{Given, Table, row_name};
 use std::alloc::{AllocError, Global};
 use trio_base::Name;
 use trio_io::{Shelf, Sink};
-use trio_types::Spec;
+use trio_types::{Spec, cell_count};
 
 /// Checks whether the history in one file satisfies the specification in another, and writes the verdict. The fault that comes back is still to
 /// be said, but for `Write`.
@@ -56,26 +56,41 @@ fn check_answer<F: Shelf>(
 
 /// The verdict on a given history, or the fault that names its first unknown cell.
 fn judged(alloc: Global, spec: &Spec, given: &Given) -> Result<Answer, Fault>
-    requires { (table : List ℕ) → given.now ≡ map Some table → IsTable (world_of spec.now) table }
+    requires { IsGiven (world_of spec.now) given.now }
     ensures { Judges spec.now given.now result }
 {
-    match whole(alloc, given.as_slice()) {
-        Ok(Values::Known(table)) => match verdict_answer(alloc, spec, &table) {
+    let Ok(mut table) = blank_table(alloc, cell_count(spec)) else {
+        return Err(Fault::Memory);
+    };
+    match given.whole(&mut table) {
+        Ok(()) => match verdict_answer(alloc, spec, &table) {
             Ok(answer) => Ok(answer),
             Err(_) => Err(Fault::Memory),
         },
-        Ok(Values::Unknown(cell)) => Err(unknown(alloc, spec, cell)),
-        Err(_) => Err(Fault::Memory),
+        Err(cell) => Err(unknown(alloc, spec, cell)),
     }
 }
 
-/// The fault that names a cell, or want of memory for its name.
-fn unknown(alloc: Global, spec: &Spec, cell: usize) -> Fault
+/// A table of this many cells, each with the index 0.
+fn blank_table(alloc: Global, cells: u32) -> Result<Table, AllocError>
+    ensures { IfOk result (λ table. length table ≡ cells) }
+{
+    let mut table = Table::new(alloc);
+    for _cell in 0..cells {
+        if let Err((_, error)) = table.push(0) {
+            return Err(error);
+        }
+    }
+    Ok(table)
+}
+
+/// The fault that names a cell, or want of memory for its row's name.
+fn unknown(alloc: Global, spec: &Spec, cell: u32) -> Fault
+    requires { cell < length (cells_of (world_of spec.now)) }
     ensures { (result ≡ unknown_fault (world_of spec.now) cell) ⊎ (result ≡ Fault.Memory) }
 {
-    let (row, instant) = row_and_instant(spec, cell);
-    match row_name(alloc, spec, row) {
-        Ok(name) => Fault::Unknown(name, instant),
+    match row_name(alloc, spec, cell / spec.instants) {
+        Ok(name) => Fault::Unknown(name, cell % spec.instants),
         Err(_) => Fault::Memory,
     }
 }

@@ -1,11 +1,11 @@
 //! Why a command could not answer.
-ghost use Rattle.std.specs.Prelude.{◌≡◌, ◌⊎◌};
+ghost use Rattle.std.specs.Prelude.{◌≡◌, ◌<◌, ◌⊎◌, ℕ, length};
+ghost use Rattle.trio_types.specs.Cells.{rows_of};
 ghost use Rattle.trio_types.specs.Verdict.{world_of};
 ghost use Rattle.trio_main.specs.Fault.{status_of, spec_refusal, history_refusal};
 
-use crate::row::row_name;
 use crate::status::Status;
-use history_check::table::HistFault;
+use history_table::{HistFault, row_name};
 use std::alloc::Global;
 use trio_base::Name;
 use trio_reader::SpecFault;
@@ -52,11 +52,12 @@ impl Fault {
 
     /// The refusal of a history's text. A missing row is named, and where there is no memory for its name the fault is that.
     pub fn of_history(alloc: Global, spec: &Spec, fault: HistFault) -> Fault
+        requires { (row : ℕ) → fault ≡ HistFault.MissingRow row → row < length (rows_of (world_of spec.now)) }
         ensures { (result ≡ history_refusal (world_of spec.now) fault) ⊎ (result ≡ Fault.Memory) }
     {
         match fault {
             HistFault::Memory => Fault::Memory,
-            HistFault::MissingRow(row) => match row_name(alloc, spec, row as usize) {
+            HistFault::MissingRow(row) => match row_name(alloc, spec, row) {
                 Ok(name) => Fault::Missing(name),
                 Err(_) => Fault::Memory,
             },

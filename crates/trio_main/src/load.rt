@@ -1,12 +1,12 @@
 //! Fetching files and reading them.
-ghost use Rattle.std.specs.Prelude.{◌≡◌, ℕ, ◌≤◌, List, length, Some, IfOk, IfErr, map};
+ghost use Rattle.std.specs.Prelude.{◌≡◌, ◌≤◌, length, Some, IfOk, IfErr};
 ghost use Rattle.trio_io.specs.Outside.{OnlyReads, Holds};
 ghost use Rattle.trio_types.specs.Verdict.{world_of};
-ghost use Rattle.trio_types.specs.Cells.{IsTable};
+ghost use Rattle.history_table.specs.Fitting.{IsGiven};
 ghost use Rattle.trio_main.specs.Load.{limit_of, FileFault, YieldsSpec, YieldsHistory, HasCause, Loads};
 
 use crate::fault::{Fault, Text};
-use history_check::table::{Given, read_history};
+use history_table::{Given, read_history};
 use std::alloc::Global;
 use trio_base::Name;
 use trio_base::limits::{MOST_HISTORY_BYTES, MOST_SPEC_BYTES};
@@ -66,7 +66,7 @@ pub fn load_history<F: Shelf>(
 ) -> Result<Given, Fault>
     ensures reads { OnlyReads 1 (F.seen shelf.old) (F.seen shelf.new) }
     ensures loads { Loads (F.seen shelf.old) (F.seen shelf.new) (YieldsHistory (world_of spec.now) (F.seen shelf.old) name.now) result }
-    ensures fits { IfOk result (λ given. (table : List ℕ) → given ≡ map Some table → IsTable (world_of spec.now) table) }
+    ensures fits { IfOk result (IsGiven (world_of spec.now)) }
 {
     let bytes = load_text(alloc, shelf, Text::History, name)?;
     match read_history(alloc, spec, bytes.as_slice()) {

@@ -9,7 +9,6 @@ mod command;
 mod fault;
 mod load;
 mod message;
-mod row;
 mod status;
 mod top;
 

@@ -6,7 +6,7 @@ ghost use Rattle.trio_main.specs.Answer.{Says};
 
 use crate::fault::{Fault, Text};
 use crate::status::Status;
-use history_check::table::HistFault;
+use history_table::HistFault;
 use itoa::Buffer;
 use trio_io::{Sink, SinkFault, write_pieces, write_whole};
 use trio_reader::{SpecFault, Which};

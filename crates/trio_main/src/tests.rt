@@ -9,10 +9,14 @@ ghost use Rattle.trio_main.specs.declared.status.Status.{Status};
 ghost use Rattle.trio_main.specs.Command.{words_of, command_of};
 ghost use Rattle.trio_main.specs.Due.{Due};
 
+mod history_rows;
+mod made_texts;
+mod spec_rows;
+
 use super::*;
 use crate::fault::{Fault, Text};
 use crate::message::say;
-use history_check::table::HistFault;
+use history_table::HistFault;
 use std::alloc::{AllocError, Global};
 use std::process::Abort;
 use std::test::Fail;
@@ -92,6 +96,12 @@ fn check_row(rt: &(impl Abort + AllocGlobal), row: &str) -> Result<(), Fail> {
     Ok(())
 }
 
+/// Asserts the answer for a specification and an empty history.
+fn answer_is(rt: &(impl Abort + AllocGlobal), spec: &str, want: &str) -> Result<(), Fail> {
+    let row = format!(in rt.alloc(); "{spec} ~  ~ {want}\n")?;
+    check_row(rt, row.as_str())
+}
+
 #[test]
 fn verdicts_and_refusals(rt: HostRuntime) -> Result<(), Fail> {
     let rows = [
@@ -99,7 +109,7 @@ fn verdicts_and_refusals(rt: HostRuntime) -> Result<(), Fail> {
         "time 3; item p : bool; axiom A : p -> Dist(p, 1); ~ p: 0 1 1 ~ 1 false A 2\n",
         "time 3; item p : bool; axiom A : p -> Dist(p, 1); ~ p: 1 0 1 ~ 1 false A 0\n",
         "time 3; item p : bool; axiom A : p -> Dist(p, 1); ~ p: 0 ? 1 ~ 4 unknown p 1\n",
-        "time 3; item p : bool; axiom A : p -> Futr(p, 1); ~ p: 0 0 0 ~ 4 refused spec syntax 13\n",
+        "time 3; item p : bool; axiom A : p -> Futr(p, 1); ~ p: 0 0 0 ~ 0 true\n",
         "time 3; item p : bool; axiom A : q; ~ p: 0 ? 1 ~ 4 refused spec unknown 11\n",
         "time 1; axiom A : false; axiom B : true; ~  ~ 1 false A 0\n",
         "time 2; axiom A : true; axiom B at 1 : Dist(true, 1); ~  ~ 1 false B 1\n",

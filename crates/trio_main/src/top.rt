@@ -11,7 +11,7 @@ use crate::command::{Command, WordsFault, read_words};
 use crate::fault::Fault;
 use crate::message::say;
 use crate::status::Status;
-use history_check::table::text_has_one_history;
+use history_table::text_has_one_history;
 use std::alloc::Global;
 use trio_io::{Bell, Shelf, Sink, write_whole};
 use trio_reader::{

@@ -5,17 +5,19 @@ use Rattle.trio_text.specs.declared.token.Token.{Token}
 use Rattle.trio_text.specs.Tokens.{IsTokens, IsLexFault}
 use Rattle.trio_text.specs.Lexemes.{lexemes_of}
 use Rattle.trio_types.specs.declared.spec.Spec.{Spec}
+use Rattle.trio_types.specs.Verdict.{parts_of}
 use Rattle.trio_syntax.specs.declared.tree.SpecTree.{SpecTree}
 use Rattle.trio_syntax.specs.Reading.{IsSyntaxFault}
 use Rattle.trio_syntax.specs.Grammar.{IsSpec}
 use Rattle.trio_syntax.specs.Depth.{first_deep}
+use Rattle.trio_scope.specs.Places.{least}
+use Rattle.trio_scope.specs.Scope.{unknown_places, repeated_places}
 use Rattle.trio_reader.specs.declared.fault.SpecFault.{SpecFault}
 use Rattle.trio_reader.specs.declared.fault.SpecFault.TheVariants as fault
-use Rattle.trio_reader.specs.Places.{least}
-use Rattle.trio_reader.specs.Scope.{unknown_places, repeated_places}
+use Rattle.trio_reader.specs.Erasure.{parts_of_tree}
 use Rattle.trio_reader.specs.Kinds.{kind_places}
-use Rattle.trio_reader.specs.Ranges.{range_places, count_fault}
-use Rattle.trio_reader.specs.Erasure.{IsSpecOf}
+use Rattle.trio_reader.specs.Ranges.{out_of_range}
+use Rattle.trio_limits.specs.Limits.{count_fault}
 
 -- the first fault of two phases
 abbrev pub or_later : Option SpecFault → Option SpecFault → Option SpecFault
@@ -28,8 +30,8 @@ tree_fault tree =
     or_later (option_map fault.Unknown (least (unknown_places tree)))
     (or_later (option_map fault.Twice (least (repeated_places tree)))
     (or_later (option_map fault.Kind (least (kind_places tree)))
-    (or_later (option_map fault.Range (least (range_places tree)))
-    (option_map (λ c. fault.Limit c.0 c.1) (count_fault tree)))))
+    (or_later (option_map fault.Range (least (out_of_range tree)))
+    (option_map (λ c. fault.Limit c.0 c.1) (count_fault (parts_of_tree tree))))))
 
 -- the text is a list of tokens in which at most 100 brackets are open at once
 pub record IsShallow (text : List ℕ) (tokens : List Token) : Type 0 where
@@ -47,7 +49,7 @@ pub record IsSpecText (text : List ℕ) (spec : Spec) : Type 0 where
   pub tree : SpecTree
   pub read : IsTreeText text tree
   pub sound : tree_fault tree ≡ None
-  pub stands : IsSpecOf tree spec
+  pub stands : parts_of spec ≡ parts_of_tree tree
 
 -- the text has this first fault
 abbrev pub HasFault : List ℕ → SpecFault → Type 0

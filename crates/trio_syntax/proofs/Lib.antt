@@ -1,13 +1,1 @@
-pub mod Rest
-pub mod Tail
-pub mod Repeat
-pub mod Terms
-pub mod Exits
-pub mod Formulas
-pub mod Statements
 pub mod Depths
-pub mod Places
-pub mod Unique
-pub mod Faults
-pub mod Names
-pub mod Parts

@@ -1,9 +1,12 @@
 -- What tests and searches of lists say of their elements, place by place.
-use Rattle.std.proofs.Common.{◌≡◌, ℕ, zero, suc, ◌+◌, ◌<◌, ◌≤◌, Bool, true, false, ◌⊎◌, List, [], ◌∷◌, ◌++◌, length, Option, None, Some, slice_get, find, inl, inr, refl, sym, ap, ◌∙◌, arith}
+use Rattle.std.proofs.Common.{◌≡◌, ℕ, zero, suc, ◌+◌, ◌<◌, ◌≤◌, Bool, true, false, not, ◌&&◌, ◌||◌, ◌⊎◌, List, [], ◌∷◌, ◌++◌, map, length, take, drop, Option, None, Some, slice_get, find, inl, inr, refl, sym, ap, ◌∙◌, arith}
 use Rattle.std.specs.List.{list_all, list_any, range_with_len, flat_map}
+use Rattle.std.specs.Str.{bytes_eq}
+use Rattle.std.proofs.lemmas.Slice.Eq.{bytes_eq-Decides}
+use Rattle.trio_types.specs.Names.{are_distinct}
 use Rattle.std.specs.Option.{option_map, option_or}
 use Rattle.std.proofs.Math.Logic.{⊎_elim}
-use Rattle.std.proofs.lemmas.Bool.{false≢true, and_parts, and_from, or_cases, or_left, or_right, cond-true, cond-false, cases_Bool, cases_lt}
+use Rattle.std.proofs.lemmas.Bool.{false≢true, not-true, and_parts, and_from, or_cases, or_left, or_right, cond-true, cond-false, cases_Bool, cases_lt}
 use Rattle.std.proofs.lemmas.Option.{none-some, same_Some}
 
 -- each element passes
@@ -129,3 +132,80 @@ pub get_within : {X : Type 0} (xs : List X) (n : ℕ) → n < length xs → (x :
 get_within [] n inside = absurd (omega arith)
 get_within (x ∷ xs) zero inside = (x, refl)
 get_within (x ∷ xs) (suc n) inside = get_within xs n (omega arith)
+
+-- lists that functions make
+pub list_any-map : {X Y : Type 0} (p : Y → Bool) (g : X → Y) (xs : List X) → list_any p (map g xs) ≡ list_any (λ x. p (g x)) xs
+list_any-map p g [] = refl
+list_any-map p g (x ∷ xs) = ap (λ b. p (g x) || b) (list_any-map p g xs)
+
+pub map-map : {X Y Z : Type 0} (f : Y → Z) (g : X → Y) (xs : List X) → map f (map g xs) ≡ map (λ x. f (g x)) xs
+map-map f g [] = refl
+map-map f g (x ∷ xs) = ap (λ ys. f (g x) ∷ ys) (map-map f g xs)
+
+pub map_same : {X Y : Type 0} (f g : X → Y) → ((x : X) → f x ≡ g x) → (xs : List X) → map f xs ≡ map g xs
+map_same f g same [] = refl
+map_same f g same (x ∷ xs) = rw (same x, map_same f g same xs) refl
+
+pub flat_map_same : {X Y : Type 0} (f g : X → List Y) → ((x : X) → f x ≡ g x) → (xs : List X) → flat_map f xs ≡ flat_map g xs
+flat_map_same f g same [] = refl
+flat_map_same f g same (x ∷ xs) = rw (same x, flat_map_same f g same xs) refl
+
+pub any_same : {X : Type 0} (p q : X → Bool) → ((x : X) → p x ≡ q x) → (xs : List X) → list_any p xs ≡ list_any q xs
+any_same p q same [] = refl
+any_same p q same (x ∷ xs) = rw (same x, any_same p q same xs) refl
+
+-- each passes exactly where none fails
+pub all_is_not_any : {X : Type 0} (p : X → Bool) (xs : List X) → list_all p xs ≡ not (list_any (λ x. not (p x)) xs)
+all_is_not_any p [] = refl
+all_is_not_any p (x ∷ xs) = rw (all_is_not_any p xs) (opposite (p x) (list_any (λ x. not (p x)) xs))
+  where
+    opposite : (a b : Bool) → (a && not b) ≡ not (not a || b)
+    opposite true b = refl
+    opposite false b = refl
+
+-- each element of lists in a row passes
+pub all_left : {X : Type 0} (p : X → Bool) (xs ys : List X) → list_all p (xs ++ ys) ≡ true → list_all p xs ≡ true
+all_left p [] ys all = refl
+all_left p (x ∷ xs) ys all =
+    let both = and_parts (p x) (list_all p (xs ++ ys)) all in
+    and_from (p x) (list_all p xs) both.0 (all_left p xs ys both.1)
+
+pub all_right : {X : Type 0} (p : X → Bool) (xs ys : List X) → list_all p (xs ++ ys) ≡ true → list_all p ys ≡ true
+all_right p [] ys all = all
+all_right p (x ∷ xs) ys all = all_right p xs ys (and_parts (p x) (list_all p (xs ++ ys)) all).1
+
+pub all_flat : {X Y : Type 0} (p : Y → Bool) (f : X → List Y) (xs : List X) → list_all p (flat_map f xs) ≡ true → (k : ℕ) (x : X) → slice_get xs k ≡ Some x → list_all p (f x) ≡ true
+all_flat p f [] all k x at = absurd (none-some x at)
+all_flat p f (y ∷ ys) all zero x at = ap (λ z. list_all p (f z)) (sym (same_Some y x at)) ∙ all_left p (f y) (flat_map f ys) all
+all_flat p f (y ∷ ys) all (suc k) x at = all_flat p f ys (all_right p (f y) (flat_map f ys) all) k x at
+
+pub get_front : {X : Type 0} (xs ys : List X) (k : ℕ) → k < length xs → slice_get (xs ++ ys) k ≡ slice_get xs k
+get_front [] ys k inside = absurd (omega arith)
+get_front (z ∷ zs) ys zero inside = refl
+get_front (z ∷ zs) ys (suc k) inside = get_front zs ys k (omega arith)
+
+pub all_drop : {X : Type 0} (p : X → Bool) (k : ℕ) (xs : List X) → list_all p xs ≡ true → list_all p (drop k xs) ≡ true
+all_drop p zero xs all = all
+all_drop p (suc k) [] all = all
+all_drop p (suc k) (x ∷ xs) all = all_drop p k xs (and_parts (p x) (list_all p xs) all).1
+
+pub get_of_take : {X : Type 0} (n : ℕ) (xs : List X) (k : ℕ) (x : X) → slice_get (take n xs) k ≡ Some x → slice_get xs k ≡ Some x
+get_of_take zero xs k x at = absurd (none-some x at)
+get_of_take (suc n) [] k x at = absurd (none-some x at)
+get_of_take (suc n) (y ∷ ys) zero x at = at
+get_of_take (suc n) (y ∷ ys) (suc k) x at = get_of_take n ys k x at
+
+-- names that are distinct stand at one place each
+pub distinct_places : (names : List (List ℕ)) → are_distinct names ≡ true → (k l : ℕ) (name : List ℕ) → slice_get names k ≡ Some name → slice_get names l ≡ Some name → k ≡ l
+distinct_places [] are k l name kt lt = absurd (none-some name kt)
+distinct_places (n ∷ names) are zero zero name kt lt = refl
+distinct_places (n ∷ names) are zero (suc l) name kt lt =
+    let new = and_parts (not (list_any (bytes_eq n) names)) (are_distinct names) are in
+    absurd (false≢true (sym (not-true (list_any (bytes_eq n) names) new.0)
+    ∙ any_from_some (bytes_eq n) names l name lt ((bytes_eq-Decides n name).1 (same_Some n name kt))))
+distinct_places (n ∷ names) are (suc k) zero name kt lt =
+    let new = and_parts (not (list_any (bytes_eq n) names)) (are_distinct names) are in
+    absurd (false≢true (sym (not-true (list_any (bytes_eq n) names) new.0)
+    ∙ any_from_some (bytes_eq n) names k name kt ((bytes_eq-Decides n name).1 (same_Some n name lt))))
+distinct_places (n ∷ names) are (suc k) (suc l) name kt lt =
+    ap suc (distinct_places names (and_parts (not (list_any (bytes_eq n) names)) (are_distinct names) are).1 k l name kt lt)

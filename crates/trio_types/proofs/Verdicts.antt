@@ -8,8 +8,7 @@ use Rattle.std.proofs.lemmas.Option.{none-some, same_Some, some_pair_parts}
 use Rattle.std.proofs.lemmas.List.Folds.{find-append}
 use Rattle.trio_types.specs.declared.spec.Axiom.{Axiom}
 use Rattle.trio_types.specs.declared.spec.Spec.{Spec}
-use Rattle.trio_types.specs.World.{World}
-use Rattle.trio_types.specs.Cells.{instants_of}
+use Rattle.trio_types.specs.World.{World, instants_of}
 use Rattle.trio_types.specs.Truth.{truth}
 use Rattle.trio_types.specs.Verdict.{Demand, world_of, instants_asked, demands_of_axiom, demands_of, first_false}
 use Rattle.trio_types.specs.Laws.{IsAsked, TrueThroughout, FirstFalse}

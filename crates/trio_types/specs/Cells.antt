@@ -1,11 +1,16 @@
--- Cells and tables. A table gives each cell a value index, in the order of the list of cells.
-use Rattle.std.specs.Prelude.{◌≡◌, ℕ, Bool, true, false, ◌&&◌, ◌==◌, nat_lt, List, [], ◌∷◌, Option, None, Some, map, find, length, slice_get}
+-- Rows, cells and tables. A table gives each cell a value index, in the order of the list of cells.
+use Rattle.std.specs.Prelude.{◌≡◌, ℕ, ℤ, Bool, true, false, ◌&&◌, ◌==◌, nat_lt, List, [], ◌∷◌, Option, None, Some, map, find, length, slice_get}
 use Rattle.std.specs.List.{range_with_len, enumerate_from, flat_map, zip, list_all}
-use Rattle.std.specs.Option.{option_map}
+use Rattle.std.specs.Option.{option_map, option_and_then}
 use Rattle.std.specs.Str.{bytes_eq}
 use Rattle.trio_types.specs.declared.spec.Domain.{Domain}
 use Rattle.trio_types.specs.declared.spec.Item.{Item}
-use Rattle.trio_types.specs.World.{World, size_of}
+use Rattle.trio_types.specs.World.{World, instants_of, values_in, size_of}
+
+-- an item, and the indexes of its arguments' values
+pub record Row : Type 0 where
+  pub item : ℕ
+  pub args : List ℕ
 
 -- an item, the indexes of its arguments' values, and an instant
 pub record Cell : Type 0 where
@@ -13,12 +18,12 @@ pub record Cell : Type 0 where
   pub args : List ℕ
   pub instant : ℕ
 
+-- the cell of an item with these arguments at an instant
+abbrev pub the_cell : ℕ → List ℕ → ℕ → Cell
+the_cell item args instant = record { item = item; args = args; instant = instant }
+
 abbrev pub same_cell : Cell → Cell → Bool
 same_cell a b = a.item == b.item && (bytes_eq a.args b.args && a.instant == b.instant)
-
--- the instants inside time
-unfoldable pub instants_of : World → List ℕ
-instants_of world = range_with_len 0 world.instants
 
 -- the tuples of indexes for these argument domains, in lexical order
 abbrev pub tuples : List Domain → List ℕ → List (List ℕ)
@@ -39,26 +44,41 @@ item_takes world (Some item) args = are_indexes world.domains item.args args
 abbrev pub takes : World → ℕ → List ℕ → Bool
 takes world number args = item_takes world (slice_get world.items number) args
 
--- the cells of one item: for each tuple each instant
-abbrev pub cells_of_item : World → ℕ → Item → List Cell
-cells_of_item world number item =
-    flat_map (λ args. map (λ i. record { item = number; args = args; instant = i }) (instants_of world)) (tuples world.domains item.args)
+-- the rows of one item, one for each tuple
+abbrev pub rows_of_item : World → ℕ → Item → List Row
+rows_of_item world number item = map (λ args. record { item = number; args = args }) (tuples world.domains item.args)
 
--- all cells in the order of their numbers: by item, then tuple, then instant
+-- all rows: by item, then tuple
+unfoldable pub rows_of : World → List Row
+rows_of world = flat_map (λ p. rows_of_item world p.0 p.1) (enumerate_from 0 world.items)
+
+-- the cells of one row, one for each instant
+abbrev pub cells_of_row : World → Row → List Cell
+cells_of_row world row = map (the_cell row.item row.args) (instants_of world)
+
+-- all cells in the order of their numbers: by row, then instant
 unfoldable pub cells_of : World → List Cell
-cells_of world = flat_map (λ p. cells_of_item world p.0 p.1) (enumerate_from 0 world.items)
+cells_of world = flat_map (cells_of_row world) (rows_of world)
+
+abbrev values_of_item : World → Option Item → List ℤ
+values_of_item world None = []
+values_of_item world (Some item) = values_in world.domains item.value
+
+-- the values that a cell can have, in the order of their indexes
+abbrev pub cell_values : World → Cell → List ℤ
+cell_values world cell = values_of_item world (slice_get world.items cell.item)
+
+-- how many values a cell can have
+abbrev pub cell_size : World → Cell → ℕ
+cell_size world cell = length (cell_values world cell)
 
 -- the value index that a table gives a cell; none where there is no such cell
 unfoldable pub value_at : World → List ℕ → Cell → Option ℕ
 value_at world table cell = option_map (λ p. p.1) (find (λ p. same_cell p.0 cell) (zip (cells_of world) table))
 
-abbrev value_size : World → Option Item → ℕ
-value_size world None = 0
-value_size world (Some item) = size_of world.domains item.value
-
--- how many values a cell can have
-abbrev pub cell_size : World → Cell → ℕ
-cell_size world cell = value_size world (slice_get world.items cell.item)
+-- the value itself: a number for a range, the index for bool and for words
+abbrev pub number_at : World → List ℕ → Cell → Option ℤ
+number_at world table cell = option_and_then (λ index. slice_get (cell_values world cell) index) (value_at world table cell)
 
 -- a table fits: it has one entry for each cell, and each is below the cell's size
 pub record IsTable (world : World) (table : List ℕ) : Type 0 where

@@ -2,6 +2,14 @@ pub mod World
 pub mod Cells
 pub mod Values
 pub mod Truth
+pub mod Parts
+pub mod Kinds
+pub mod Names
+pub mod Shape
+pub mod Bounds
+pub mod Instances
+pub mod Nest
+pub mod Limits
 pub mod WellFormed
 pub mod Verdict
 pub mod Laws

@@ -1,125 +1,99 @@
--- Which specifications are well formed: names are names and distinct, numbers are in range, kinds are right, limits are met.
-use Rattle.std.specs.Prelude.{ℕ, ◌*◌, Bool, true, false, not, ◌&&◌, ◌==◌, nat_lt, nat_le, List, [], ◌∷◌, ◌++◌, Option, None, Some, map, length, codes}
-use Rattle.std.specs.List.{list_all, list_any}
+-- Which parts make a specification that is well formed.
+use Rattle.std.specs.Prelude.{ℕ, ℤ, pos, neg_ℤ, Bool, true, false, ◌&&◌, nat_lt, nat_le, int_le, List, [], ◌∷◌, ◌++◌, Option, None, Some, length, codes}
+use Rattle.std.specs.List.{list_all, flat_map}
 use Rattle.std.specs.Str.{bytes_eq}
 use Rattle.trio_base.specs.Names.{is_name}
+use Rattle.trio_base.specs.declared.limits.TheConstants.{MOST_INSTANTS, MOST_VALUES, MOST_ARGUMENTS, GREATEST_NUMBER}
+use Rattle.trio_types.specs.declared.spec.DomainKind.{DomainKind}
+use Rattle.trio_types.specs.declared.spec.DomainKind.TheVariants as kind
 use Rattle.trio_types.specs.declared.spec.Domain.{Domain}
-use Rattle.trio_types.specs.declared.spec.Item.{Item}
-use Rattle.trio_types.specs.declared.spec.Axiom.{Axiom}
-use Rattle.trio_types.specs.declared.formula.FarOp.TheVariants as far
-use Rattle.trio_types.specs.declared.formula.Term.{Term}
-use Rattle.trio_types.specs.declared.formula.Term.TheOpen.{Term-F, SignedTerm-F}
-use Rattle.trio_types.specs.declared.formula.Term.TheOpen as open_term
-use Rattle.trio_types.specs.declared.formula.Term.TheFolds.{fold-Term}
-use Rattle.trio_types.specs.declared.formula.Formula.{Formula}
-use Rattle.trio_types.specs.declared.formula.Formula.TheOpen.{Formula-F}
-use Rattle.trio_types.specs.declared.formula.Formula.TheOpen as open_formula
-use Rattle.trio_types.specs.declared.formula.Formula.TheFolds.{fold-Formula}
+use Rattle.trio_types.specs.World.{values_of}
+use Rattle.trio_types.specs.Parts.{Parts, claims_of}
+use Rattle.trio_types.specs.Names.{declared_names, are_distinct, variables_of, variables_are_new}
+use Rattle.trio_types.specs.Kinds.{uses_of, is_right}
+use Rattle.trio_types.specs.Shape.{is_shaped, numbers_of}
+use Rattle.trio_types.specs.Limits.{count_of, limit_of, counted}
 
--- What a term may stand for. A signed number is told apart from a written one, since no sign stands before a sign.
-pub data Sort : Type 0 where
-  wrong : Sort
-  written : Sort
-  signed : Sort
-  truth_value : Sort
+-- 1 to 256 instants
+abbrev pub has_instants : Parts → Bool
+has_instants parts = nat_lt 0 parts.instants && nat_le parts.instants MOST_INSTANTS
 
-abbrev pub is_distance : Sort → Bool
-is_distance written = true
-is_distance signed = true
-is_distance sort = false
+abbrev is_bool : DomainKind → Bool
+is_bool kind.Bool = true
+is_bool values = false
 
-abbrev pub is_truth_value : Sort → Bool
-is_truth_value truth_value = true
-is_truth_value sort = false
+abbrev is_other : DomainKind → Bool
+is_other kind.Bool = false
+is_other values = true
 
-abbrev pub is_written : Sort → Bool
-is_written written = true
-is_written sort = false
+abbrev bool_stands_first : List Domain → Bool
+bool_stands_first [] = false
+bool_stands_first (first ∷ others) =
+    bytes_eq first.name (codes "bool") && (is_bool first.kind && list_all (λ domain. is_other domain.kind) others)
 
-abbrev pub sort_if : Bool → Sort → Sort
-sort_if true sort = sort
-sort_if false sort = wrong
+-- domain 0 is `bool`, and no other is
+abbrev pub has_bool : Parts → Bool
+has_bool parts = bool_stands_first parts.domains
 
--- a sum, of which only a number with `-` before it exists
-abbrev pub sum_sort : List (Bool × Sort) → Sort
-sum_sort (part ∷ []) = sort_if (part.0 && is_written part.1) signed
-sum_sort parts = wrong
+-- a number that may be written, with a sign or without
+abbrev pub is_written : ℤ → Bool
+is_written z = int_le (neg_ℤ (pos GREATEST_NUMBER)) z && int_le z (pos GREATEST_NUMBER)
 
--- reads name an item and have no arguments, values are those of bool, numbers are at most a million
-abbrev pub term_sort : ℕ → Term-F Sort (Bool × Sort) → Sort
-term_sort items (open_term.Number n) = sort_if (nat_le n 1000000) written
-term_sort items (open_term.Value d v) = sort_if (d == 0 && nat_lt v 2) truth_value
-term_sort items (open_term.Read number []) = sort_if (nat_lt number items) truth_value
-term_sort items (open_term.Read number args) = wrong
-term_sort items (open_term.Sum parts) = sum_sort parts
+abbrev ends_are_written : DomainKind → Bool
+ends_are_written (kind.Range low high) = is_written low && is_written high
+ends_are_written values = true
 
-abbrev pub part_sort : SignedTerm-F Sort (Bool × Sort) → Bool × Sort
-part_sort part = (part.minus, part.term)
+-- 1 to 64 values
+abbrev pub values_fit : DomainKind → Bool
+values_fit values = ends_are_written values && (nat_lt 0 (length (values_of values)) && nat_le (length (values_of values)) MOST_VALUES)
 
-unfoldable pub sort_of : ℕ → Term → Sort
-sort_of items = fold-Term Sort (Bool × Sort) (term_sort items) part_sort
+abbrev pub domains_fit : Parts → Bool
+domains_fit parts = list_all (λ domain. values_fit domain.kind) parts.domains
 
--- a number, or a number with `-` before it; it reads no item
-abbrev pub is_distance_term : ℕ → Term → Bool
-is_distance_term items term = is_distance (sort_of items term)
+-- 0 to 4 arguments
+abbrev pub items_fit : Parts → Bool
+items_fit parts = list_all (λ item. nat_le (length item.args) MOST_ARGUMENTS) parts.items
 
-abbrev pub two_or_more : List Bool → Bool
-two_or_more (p ∷ q ∷ ps) = true
-two_or_more ps = false
+-- declared names and the names of variables are names
+abbrev pub names_are_names : Parts → Bool
+names_are_names parts = list_all is_name (declared_names parts ++ flat_map (λ a. variables_of a.formula) (claims_of parts))
 
-abbrev pub formula_fits : ℕ → Formula-F Bool → Bool
-formula_fits items (open_formula.Lone x) = is_truth_value (sort_of items x)
-formula_fits items (open_formula.Not f) = f
-formula_fits items (open_formula.And fs) = two_or_more fs && list_all (λ f. f) fs
-formula_fits items (open_formula.Or fs) = two_or_more fs && list_all (λ f. f) fs
-formula_fits items (open_formula.Implies f g) = f && g
-formula_fits items (open_formula.Far far.Dist f x) = f && is_distance_term items x
+-- no two declared names are the same
+abbrev pub names_are_distinct : Parts → Bool
+names_are_distinct parts = are_distinct (declared_names parts)
 
--- a formula whose terms are of the right kinds, over this many items
-unfoldable pub fits : ℕ → Formula → Bool
-fits items = fold-Formula Bool (formula_fits items)
+-- no variable has a declared name, or that of a variable in whose body it stands
+abbrev pub variables_are_distinct : Parts → Bool
+variables_are_distinct parts = list_all (λ a. variables_are_new a.formula (declared_names parts)) (claims_of parts)
 
--- an instant inside time, or none named
+-- every term has the kind that its place asks for, every read its arguments, and none stands in a distance or argument
+abbrev pub kinds_are_right : Parts → Bool
+kinds_are_right parts = list_all is_right (uses_of parts)
+
+-- an And or Or has two parts or more, and a Sum one or more, with a sign where it is one
+abbrev pub parts_are_many : Parts → Bool
+parts_are_many parts = list_all (λ a. is_shaped a.formula) (claims_of parts)
+
+-- no number above a million
+abbrev pub numbers_are_small : Parts → Bool
+numbers_are_small parts = list_all (λ n. nat_le n GREATEST_NUMBER) (flat_map (λ a. numbers_of a.formula) (claims_of parts))
+
 abbrev pub instant_fits : ℕ → Option ℕ → Bool
 instant_fits instants None = true
 instant_fits instants (Some k) = nat_lt k instants
 
-abbrev pub axiom_fits : ℕ → ℕ → Axiom → Bool
-axiom_fits instants items a = instant_fits instants a.at && fits items a.formula
+-- the instants that axioms and goals name are inside time
+abbrev pub instants_fit : Parts → Bool
+instants_fit parts = list_all (λ a. instant_fits parts.instants a.at) (claims_of parts)
 
-abbrev pub is_none : List ℕ → Bool
-is_none [] = true
-is_none args = false
+-- each count is within its limit
+abbrev pub limits_are_met : Parts → Bool
+limits_are_met parts = list_all (λ which. nat_le (count_of which parts) (limit_of which)) counted
 
--- an item without arguments whose values are of bool
-abbrev pub item_fits : Item → Bool
-item_fits item = is_none item.args && item.value == 0
+abbrev pub conditions : List (Parts → Bool)
+conditions =
+    has_instants ∷ has_bool ∷ domains_fit ∷ items_fit ∷ names_are_names ∷ names_are_distinct ∷ variables_are_distinct
+    ∷ kinds_are_right ∷ parts_are_many ∷ numbers_are_small ∷ instants_fit ∷ limits_are_met ∷ []
 
--- domain 0 is bool, and there is no other
-abbrev pub is_bool_alone : List Domain → Bool
-is_bool_alone (domain ∷ []) = bytes_eq domain.name (codes "bool")
-is_bool_alone domains = false
-
--- no name stands twice
-abbrev pub are_distinct : List (List ℕ) → Bool
-are_distinct [] = true
-are_distinct (name ∷ names) = not (list_any (bytes_eq name) names) && are_distinct names
-
--- the declared names, apart from that of bool
-abbrev pub declared_names : List Item → List Axiom → List Axiom → List (List ℕ)
-declared_names items axioms goals = map (λ item. item.name) items ++ map (λ a. a.name) axioms ++ map (λ a. a.name) goals
-
--- the limits on items, cells and the sum of cell sizes
-abbrev pub meets_limits : ℕ → ℕ → Bool
-meets_limits instants items =
-    nat_le items 256 && (nat_le (items * instants) 1024 && nat_le (2 * (items * instants)) 4096)
-
-abbrev pub is_well_formed : ℕ → List Domain → List Item → List Axiom → List Axiom → Bool
-is_well_formed instants domains items axioms goals =
-    nat_lt 0 instants && (nat_le instants 256 && (is_bool_alone domains
-    && (list_all item_fits items
-    && (list_all (axiom_fits instants (length items)) axioms
-    && (list_all (axiom_fits instants (length items)) goals
-    && (list_all is_name (declared_names items axioms goals)
-    && (are_distinct (declared_names items axioms goals)
-    && meets_limits instants (length items))))))))
+unfoldable pub is_well_formed : Parts → Bool
+is_well_formed parts = list_all (λ is_met. is_met parts) conditions

@@ -1,10 +1,12 @@
-//! The laws of truth, of verdicts and of cells, each as the contract of a function that does nothing.
-ghost use Rattle.trio_types.specs.Laws.{DistanceLaw, NotLaw, AndLaw, OrLaw, ImpliesLaw, FalseLaw, TrueLaw, OnceLaw, EntryLaw};
+//! The laws of truth, of terms, of verdicts and of cells, each as the contract of a function that does nothing.
+ghost use Rattle.trio_types.specs.Laws.{NotLaw, AndLaw, OrLaw, ImpliesLaw, IffLaw, AllLaw, ExLaw, AlwLaw, SomLaw, AlwFLaw, SomFLaw, AlwPLaw, SomPLaw};
+ghost use Rattle.trio_types.specs.Laws.{DistLaw, FutrLaw, PastLaw, LastsLaw, WithinFLaw, LastedLaw, WithinPLaw, NextTimeLaw, LastTimeLaw, UntilLaw, SinceLaw};
+ghost use Rattle.trio_types.specs.Laws.{OneOppositeLaw, FarOppositeLaw, QuantifierOppositeLaw, EmptyAheadLaw, EmptyBehindLaw};
+ghost use Rattle.trio_types.specs.Laws.{CompareLaw, LoneLaw, NoValueLaw, ConstantLaw, ReadLaw, OutsideLaw, NoPartLaw, PartLaw, TimesLaw};
+ghost use Rattle.trio_types.specs.Laws.{FalseLaw, TrueLaw, OrderLaw, OnceLaw, StandsLaw, EntryLaw, RowLaw, IsSpecification};
+ghost use Rattle.trio_types.specs.Verdict.{parts_of};
 
-/// A distance is true exactly where its target is inside time and the formula is true there.
-pub fn distance_is_inside_time()
-    ensures { DistanceLaw }
-{}
+use crate::spec::Spec;
 
 /// The connectives are those of propositional logic.
 pub fn connectives_are_classical()
@@ -12,6 +14,80 @@ pub fn connectives_are_classical()
     ensures both { AndLaw }
     ensures either { OrLaw }
     ensures implies { ImpliesLaw }
+    ensures iff { IffLaw }
+{}
+
+/// Quantifiers range over the values of their domain.
+pub fn quantifiers_range_over_values()
+    ensures all { AllLaw }
+    ensures ex { ExLaw }
+{}
+
+/// The operators on one formula speak of every or some instant inside time, of those after now, and of those before.
+pub fn always_and_sometimes()
+    ensures alw { AlwLaw }
+    ensures som { SomLaw }
+    ensures alw_f { AlwFLaw }
+    ensures som_f { SomFLaw }
+    ensures alw_p { AlwPLaw }
+    ensures som_p { SomPLaw }
+{}
+
+/// A distance is true exactly where its target is inside time and the formula is true there.
+pub fn distances_are_inside_time()
+    ensures dist { DistLaw }
+    ensures futr { FutrLaw }
+    ensures past { PastLaw }
+{}
+
+/// The ranged operators speak of the instants inside time between now and the distance, with the ends that their suffix takes.
+pub fn ranges_have_their_ends()
+    ensures lasts { LastsLaw }
+    ensures within_f { WithinFLaw }
+    ensures lasted { LastedLaw }
+    ensures within_p { WithinPLaw }
+{}
+
+/// The next and the last time is at the distance, and not between.
+pub fn next_and_last_time()
+    ensures next { NextTimeLaw }
+    ensures last { LastTimeLaw }
+{}
+
+/// Until and Since have an instant at which the second formula is true, and the first at each between.
+pub fn until_and_since()
+    ensures until { UntilLaw }
+    ensures since { SinceLaw }
+{}
+
+/// Each operator that speaks of every instant is the opposite of the one that speaks of some.
+pub fn every_is_not_some_not()
+    ensures one { OneOppositeLaw }
+    ensures far { FarOppositeLaw }
+    ensures quantifier { QuantifierOppositeLaw }
+{}
+
+/// A range without instants makes what speaks of every instant in it true, and what speaks of some false.
+pub fn empty_ranges()
+    ensures ahead { EmptyAheadLaw }
+    ensures behind { EmptyBehindLaw }
+{}
+
+/// Atoms are true as their terms' values say, and false where a term has none.
+pub fn atoms_compare_values()
+    ensures compare { CompareLaw }
+    ensures lone { LoneLaw }
+    ensures none { NoValueLaw }
+    ensures constant { ConstantLaw }
+{}
+
+/// Reads, sums and products.
+pub fn terms_have_their_values()
+    ensures read { ReadLaw }
+    ensures outside { OutsideLaw }
+    ensures no_part { NoPartLaw }
+    ensures part { PartLaw }
+    ensures times { TimesLaw }
 {}
 
 /// The first false axiom and instant are just that, and there is none exactly where every axiom is true at each of its instants.
@@ -20,12 +96,20 @@ pub fn first_false_is_first()
     ensures none { TrueLaw }
 {}
 
-/// Every cell has one number.
-pub fn cells_stand_once()
-    ensures { OnceLaw }
+/// The cells stand in order, each once, and are those that the items have.
+pub fn cells_stand_in_order()
+    ensures order { OrderLaw }
+    ensures once { OnceLaw }
+    ensures stands { StandsLaw }
 {}
 
-/// The entry of a table at a cell's number is the cell's value.
+/// The entry of a table at a cell's number is the cell's value, and row by row the table gives the values at the instants.
 pub fn entries_are_values()
-    ensures { EntryLaw }
+    ensures entry { EntryLaw }
+    ensures row { RowLaw }
+{}
+
+/// A specification is well formed, in words.
+pub fn specifications_are_well_formed(_spec: &Spec)
+    ensures { IsSpecification (parts_of _spec.now) }
 {}

@@ -5,8 +5,12 @@ mod cells;
 mod formula;
 pub mod laws;
 mod spec;
+mod values;
 
-pub use cells::{cell_count, cell_of, size_of};
-pub use formula::{FarOp, Formula, Formulas, SignedTerm, SignedTerms, Term, Terms};
-pub use spec::{Axiom, Axioms, Domain, DomainKind, Domains, Goal, Ids, Item, Items, Spec};
-pub use trio_base::{Bytes, List, Name};
+pub use cells::{CellParts, cell_count, cell_of, cell_parts, cell_size, size_of};
+pub use formula::{Formula, Formulas, SignedTerm, SignedTerms, Term, Terms};
+pub use spec::{
+    Axiom, Axioms, Domain, DomainKind, Domains, Goal, Ids, Item, Items, Names, Spec, Which,
+};
+pub use trio_base::{Bytes, Ends, FarOp, List, Name, OneOp, PairOp, Rel};
+pub use values::{index_of, value_at};

@@ -8,11 +8,17 @@ use trio_base::{List, Name};
 /// Numbers of domains or of other things that are numbered from 0.
 pub type Ids = List<u32>;
 
-/// The values of a domain.
-#[derive(Clone, Copy, Debug, PartialEq, Eq)]
+pub type Names = List<Name>;
+
+/// The values of a domain; there are 1 to 64. The index of a value is its place from 0.
+#[derive(Debug, Drop)]
 pub enum DomainKind {
     /// `false` and `true`, with the indexes 0 and 1.
     Bool,
+    /// The whole numbers from the first to the second.
+    Range(i64, i64),
+    /// Words.
+    Words(Names),
 }
 
 /// A domain with its name.
@@ -30,7 +36,7 @@ pub struct Item {
     pub name: Name,
     /// Whether it was declared as an input.
     pub input: bool,
-    /// The domains of its arguments.
+    /// The domains of its arguments, 0 to 4.
     pub args: Ids,
     /// The domain of its values.
     pub value: u32,
@@ -51,7 +57,7 @@ pub type Axioms = List<Axiom>;
 
 pub type Goal = Axiom;
 
-/// A specification. Instants are `0..instants`.
+/// A specification. Instants are `0..instants`. Domain 0 is `bool`.
 #[derive(Debug, Drop)]
 pub struct Spec {
     pub instants: u32,
@@ -59,5 +65,22 @@ pub struct Spec {
     pub items: Items,
     pub axioms: Axioms,
     pub goals: Axioms,
-    pub ghost well_formed: { IsTrue (is_well_formed instants domains items axioms goals) },
+    pub ghost well_formed: { IsTrue (is_well_formed (record { instants = instants; domains = domains; items = items; axioms = axioms; goals = goals })) },
+}
+
+/// What is counted of a specification, and has a limit.
+#[derive(Clone, Copy, Debug, PartialEq, Eq)]
+pub enum Which {
+    /// The items.
+    Items,
+    /// The cells.
+    Cells,
+    /// The values that all cells can have, added up.
+    Sizes,
+    /// The greatest static bound of a term.
+    Bound,
+    /// The instance count.
+    Instances,
+    /// The most brackets `(` and `[` that are open at a token of the canonical text.
+    Nest,
 }

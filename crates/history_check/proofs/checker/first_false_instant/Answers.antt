@@ -3,7 +3,7 @@ use Rattle.std.proofs.Common.{◌≡◌, ℕ, ◌-◌, not, [], find, Option, No
 use Rattle.std.specs.Option.{option_map}
 use Rattle.std.proofs.lemmas.Iterator.{YieldsList-from_range}
 use Rattle.std.proofs.lemmas.Iterator.Search.{find_from_yields_List}
-use Rattle.trio_types.specs.Cells.{instants_of}
+use Rattle.trio_types.specs.World.{instants_of}
 use Rattle.trio_types.specs.Truth.{truth}
 use Rattle.trio_types.specs.Verdict.{world_of, instants_asked}
 use Rattle.history_check.proofs.checker.first_false_instant.Goals as goal

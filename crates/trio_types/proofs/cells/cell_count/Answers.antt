@@ -1,11 +1,22 @@
 -- The answers to the goals of `cell_count`.
-use Rattle.std.proofs.Common.{◌*◌, sym, ap, ◌∙◌}
-use Rattle.trio_types.specs.Verdict.{world_of}
-use Rattle.trio_types.proofs.CellNumbers.{count_is}
+use Rattle.std.proofs.Common.{◌≡◌, ◌*◌, length, sum_by, ap, sym, ◌∙◌, arith}
+use Rattle.std.proofs.lemmas.List.{take_all}
+use Rattle.trio_types.specs.Cells.{rows_of}
+use Rattle.trio_types.specs.Verdict.{parts_of, world_of}
 use Rattle.trio_types.proofs.Specs.{formed}
+use Rattle.trio_types.proofs.CellNumbers.{tuples_of_item, row_count, cell_count_is, few_cells}
 use Rattle.trio_types.proofs.cells.cell_count.Goals as goal
+
+pub overflow_mul-result : goal.overflow_mul-result
+overflow_mul-result c =
+    let spec = c.args.spec.now in
+    let whole = ap (sum_by (tuples_of_item spec.domains)) (take_all c.len.result spec.items (omega (arith, c.len.ensures))) in
+    let rows : c.rows_before.result ≡ length (rows_of (world_of spec)) = c.rows_before.ensures ∙ whole ∙ sym (row_count (world_of spec)) in
+    let cells = ap (λ n. n * spec.instants) rows in
+    omega (arith, cells, few_cells (parts_of spec) (formed spec))
 
 pub returns : goal.returns
 returns c =
     let spec = c.args.spec.now in
-    ap (λ n. n * spec.instants) c.len.ensures ∙ sym (count_is (world_of spec) (formed spec).each_item)
+    let whole = ap (sum_by (tuples_of_item spec.domains)) (take_all c.len.result spec.items (omega (arith, c.len.ensures))) in
+    ap (λ n. n * spec.instants) (c.rows_before.ensures ∙ whole ∙ sym (row_count (world_of spec))) ∙ sym (cell_count_is (world_of spec))

@@ -1,9 +1,9 @@
 -- The answers to the goals of `connectives_are_classical`.
-use Rattle.std.proofs.Common.{◌≡◌, Bool, true, false, not, ◌||◌, refl, sym, ◌∙◌}
+use Rattle.std.proofs.Common.{◌≡◌, ◌↔◌, Bool, true, false, not, ◌||◌, refl, sym, ◌∙◌}
 use Rattle.std.proofs.lemmas.Bool.{not-true, not_from_false}
-use Rattle.trio_types.proofs.Equations.{truth-Not, truth-And, truth-Or, truth-Implies}
+use Rattle.trio_types.specs.Truth.{truth, is_iff}
+use Rattle.trio_types.proofs.TruthAt.{truth-Not, truth-And, truth-Or, truth-Implies, truth-Iff}
 use Rattle.trio_types.proofs.Lists.{each_of, all_from_each, some_of, any_from_some}
-use Rattle.trio_types.specs.Truth.{truth}
 use Rattle.trio_types.proofs.laws.connectives_are_classical.Goals as goal
 
 pub returns-clause-no : goal.returns-clause-no
@@ -35,3 +35,11 @@ returns-clause-implies c = λ w f g e t i. (
   λ h. implied (truth w f e t i) (truth w g e t i) (sym (truth-Implies w f g e t i) ∙ h),
   λ h. truth-Implies w f g e t i ∙ implies (truth w f e t i) (truth w g e t i) h,
 )
+
+same : (a b : Bool) → (is_iff a b ≡ true) ↔ (a ≡ b)
+same true b = (λ h. sym h, λ h. sym h)
+same false b = (λ h. sym (not-true b h), λ h. not_from_false b (sym h))
+
+pub returns-clause-iff : goal.returns-clause-iff
+returns-clause-iff c = λ w f g e t i. let law = same (truth w f e t i) (truth w g e t i) in
+    (λ h. law.0 (sym (truth-Iff w f g e t i) ∙ h), λ h. truth-Iff w f g e t i ∙ law.1 h)

@@ -1,0 +1,10 @@
+mod Decodes
+mod Spellings
+mod LineRuns
+mod LineSteps
+mod Arguments
+mod RowNumbers
+mod Fits
+pub mod Answered
+mod PrintedValues
+mod Whole
