@@ -1,1 +1,10 @@
 pub mod Depths
+pub mod Says
+pub mod Sets
+pub mod Lines
+pub mod Tokens
+pub mod Left
+pub mod Filled
+pub mod Exits
+pub mod Loops
+pub mod Places

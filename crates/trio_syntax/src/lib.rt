@@ -3,8 +3,15 @@
 
 mod depth;
 mod fault;
+mod formula;
+mod parser;
 mod reader;
+mod refusal;
+mod statement;
+mod steps;
+mod term;
 mod tree;
+mod words;
 
 pub use fault::TreeFault;
 pub use reader::read_tree;
