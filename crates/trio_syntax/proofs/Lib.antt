@@ -8,3 +8,5 @@ pub mod Filled
 pub mod Exits
 pub mod Loops
 pub mod Places
+pub mod Faults
+pub mod Total

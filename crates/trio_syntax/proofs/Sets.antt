@@ -23,7 +23,7 @@ use Rattle.trio_syntax.specs.declared.tree.Quantifier.TheVariants as quant
 abbrev pub within : List (List ℕ) → List (List ℕ) → Bool
 within set other = list_all (λ c. list_any (bytes_eq c) other) set
 
-either_true : (x y : Bool) → (x || y) ≡ true → (x ≡ true) ⊎ (y ≡ true)
+pub either_true : (x y : Bool) → (x || y) ≡ true → (x ≡ true) ⊎ (y ≡ true)
 either_true true y is = inl refl
 either_true false y is = inr is
 

@@ -4,6 +4,7 @@
 mod depth;
 mod fault;
 mod formula;
+mod laws;
 mod parser;
 mod reader;
 mod refusal;
@@ -14,6 +15,10 @@ mod tree;
 mod words;
 
 pub use fault::TreeFault;
+pub use laws::{
+    faulty_tokens_are_no_tree, tokens_are_one_tree, tokens_have_a_tree_or_a_fault,
+    tokens_have_one_fault,
+};
 pub use reader::read_tree;
 pub use tree::{
     ClaimTree, DeclarationTree, DomainTree, FormulaTree, IntTree, ItemTree, Mention, PartTree,
