@@ -10,3 +10,4 @@ pub mod Loops
 pub mod Places
 pub mod Faults
 pub mod Total
+pub mod Formed

@@ -17,7 +17,7 @@ mod words;
 pub use fault::TreeFault;
 pub use laws::{
     faulty_tokens_are_no_tree, tokens_are_one_tree, tokens_have_a_tree_or_a_fault,
-    tokens_have_one_fault,
+    tokens_have_one_fault, trees_are_formed,
 };
 pub use reader::read_tree;
 pub use tree::{
