@@ -26,7 +26,7 @@ pub fn row_name(alloc: Global, spec: &Spec, row: u32) -> Result<Name, AllocError
 }
 
 /// Appends the name of a row.
-fn add_name(
+pub fn add_name(
     alloc: Global,
     text: &mut String,
     spec: &Spec,
@@ -69,7 +69,7 @@ fn add_values(
 }
 
 /// Appends a value by its index in the domain of this number.
-fn add_value(
+pub fn add_value(
     alloc: Global,
     text: &mut String,
     spec: &Spec,
