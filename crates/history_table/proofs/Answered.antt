@@ -1,5 +1,5 @@
 -- From the lines of a text to its answer.
-use Rattle.std.proofs.Common.{◌≡◌, ◌≢◌, ◌⊎◌, inl, inr, ℕ, ◌+◌, List, [], ◌∷◌, ◌++◌, refl, sym, ap, ◌∙◌, true, false, Bool, not, ◌==◌, Option, None, Some, Result, Ok, Err, map, length, position, if◌then◌else◌, option_map, IfOk, subst}
+use Rattle.std.proofs.Common.{◌≡◌, ◌≢◌, ◌⊎◌, inl, inr, ℕ, ◌+◌, List, [], ◌∷◌, ◌++◌, refl, sym, ap, ◌∙◌, true, false, Bool, not, ◌==◌, Option, None, Some, Result, Ok, Err, length, position, if◌then◌else◌, option_map, IfOk, subst}
 use Rattle.std.proofs.lemmas.Option.{same_Some}
 use Rattle.trio_text.specs.declared.token.Token.{Token}
 use Rattle.trio_text.specs.declared.lexeme.Lexeme.{Lexeme}
@@ -11,10 +11,9 @@ use Rattle.history_table.specs.declared.fault.HistFault.{HistFault}
 use Rattle.history_table.specs.declared.fault.HistFault.TheVariants as fault
 use Rattle.history_table.specs.declared.line.Line.{Line}
 use Rattle.history_table.specs.declared.lines.Found.{Found}
-use Rattle.history_table.specs.Spelled.{Reads}
 use Rattle.history_table.specs.Lines.{Numbered, Placed, lines_of, AreRead}
 use Rattle.history_table.specs.Rows.{named_row, is_outside}
-use Rattle.history_table.specs.History.{row_fault, read_fault, have_row, line_fault, lines_fault, first_of, missing_row, history_of, if_sound, if_whole, Says, IsHistoryAnswer, OneHistory}
+use Rattle.history_table.specs.History.{row_fault, read_fault, have_row, line_fault, lines_fault, first_of, history_of, if_sound, Says, IsHistoryAnswer, OneHistory}
 use Rattle.history_table.specs.Fitting.{IsGiven}
 use Rattle.history_table.specs.Decoding.{line_of, lines_by, placed_of, AreFound, IsFault, joined, joined_of, has_row, IsJoined}
 use Rattle.history_table.proofs.Spellings.{reads_line, reads_once}

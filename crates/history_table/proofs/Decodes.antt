@@ -1,5 +1,5 @@
 -- What the reader of a line takes from the front, step by step.
-use Rattle.std.proofs.Common.{◌≡◌, ℕ, suc, ◌+◌, ◌<◌, List, [], ◌∷◌, ◌++◌, length, refl, sym, ap, ◌∙◌, append_assoc, append-nil, Bool, true, false, arith, Option, None, Some, option_map, slice_get}
+use Rattle.std.proofs.Common.{◌≡◌, ◌<◌, List, [], ◌∷◌, ◌++◌, length, refl, sym, ap, append_assoc, append-nil, true, false, arith, Option, None, Some, option_map}
 use Rattle.std.proofs.lemmas.Option.{same_Some}
 use Rattle.trio_text.specs.declared.token.Reserved.TheVariants as reserved
 use Rattle.trio_text.specs.declared.token.Symbol.TheVariants as symbol

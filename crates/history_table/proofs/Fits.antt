@@ -1,21 +1,21 @@
 -- A text without fault gives each cell an entry, and each index that is known is one of the cell's values.
-use Rattle.std.proofs.Common.{◌≡◌, ℕ, zero, suc, ◌+◌, ◌<◌, ◌≤◌, List, [], ◌∷◌, ◌++◌, length, map, refl, sym, ap, ◌∙◌, true, false, Bool, not, cond, ◌==◌, ◌&&◌, ◌||◌, nat_lt, Option, None, Some, Ok, Err, slice_get, position, find, zip, flat_map, if◌then◌else◌, option_map, option_and_then, is_none, arith, subst, Result}
+use Rattle.std.proofs.Common.{◌≡◌, ℕ, ◌+◌, List, [], ◌∷◌, ◌++◌, length, map, refl, sym, ap, ◌∙◌, true, false, Bool, not, cond, ◌==◌, ◌||◌, Option, None, Some, Ok, Err, slice_get, position, find, zip, flat_map, if◌then◌else◌, option_map, option_and_then, arith, Result}
 use Rattle.std.proofs.Math.Path.{ap₂}
-use Rattle.std.specs.List.{list_all, list_any, position_from}
-use Rattle.std.proofs.lemmas.Bool.{and_parts, and_from, not-false, lt-ltb}
+use Rattle.std.specs.List.{list_all, position_from}
+use Rattle.std.proofs.lemmas.Bool.{and_from, not-false, lt-ltb}
 use Rattle.std.proofs.lemmas.List.{length-map, length-append}
 use Rattle.std.proofs.lemmas.List.Folds.{list_all-append}
 use Rattle.std.proofs.lemmas.List.FromFn.{length-range_with_len}
 use Rattle.std.proofs.lemmas.Iterator.Adapters.{position_from-zero}
 use Rattle.trio_types.specs.declared.spec.Item.{Item}
-use Rattle.trio_types.specs.World.{World, instants_of, values_in, values_of}
-use Rattle.trio_types.specs.Cells.{Row, Cell, the_cell, rows_of, cells_of_row, cells_of, cell_values, cell_size}
+use Rattle.trio_types.specs.World.{World, instants_of, values_in}
+use Rattle.trio_types.specs.Cells.{Row, Cell, the_cell, rows_of, cells_of_row, cells_of, cell_size}
 use Rattle.history_table.specs.declared.fault.HistFault.{HistFault}
 use Rattle.history_table.specs.declared.fault.HistFault.TheVariants as fault
 use Rattle.history_table.specs.declared.line.Value.{Value}
 use Rattle.history_table.specs.declared.line.Line.{Line}
 use Rattle.history_table.specs.Lines.{Placed}
-use Rattle.history_table.specs.Rows.{value_index, named_row, same_row, entry_cell, is_outside, known_index}
+use Rattle.history_table.specs.Rows.{value_index, named_row, is_outside, known_index}
 use Rattle.history_table.specs.History.{row_fault, read_fault, is_named, names, have_row, line_fault, lines_fault, first_of, missing_row, known_cells, row_cells, given_of, history_of, if_sound, if_whole}
 use Rattle.history_table.specs.Fitting.{IsGiven, is_below}
 use Rattle.history_table.proofs.LineRuns.{eq_from}

@@ -1,7 +1,7 @@
 -- Lines one after another: what is known of them behind some without fault.
-use Rattle.std.proofs.Common.{◌≡◌, ℕ, List, [], ◌∷◌, ◌++◌, refl, sym, ap, ◌∙◌, cond, true, false, append_assoc, append-nil, subst, not, take, drop, get_or, length, ◌<◌, ◌+◌, Result, Ok, Err, slice_get, map, IsErrAnd, IfErr}
-use Rattle.std.specs.Prelude.{Bool, ◌||◌, ◌==◌, if◌then◌else◌, Option, None, Some}
-use Rattle.std.specs.List.{list_any, find, flat_map, position}
+use Rattle.std.proofs.Common.{◌≡◌, ℕ, List, [], ◌∷◌, ◌++◌, refl, sym, ap, ◌∙◌, cond, true, false, append_assoc, append-nil, subst, not, take, drop, Result, Ok, Err, slice_get, IsErrAnd, IfErr}
+use Rattle.std.specs.Prelude.{Bool, ◌||◌, ◌==◌, Option, None, Some}
+use Rattle.std.specs.List.{find, flat_map, position}
 use Rattle.std.specs.Str.{bytes_eq}
 use Rattle.std.proofs.lemmas.Bool.{and_parts}
 use Rattle.std.specs.Option.{option_and_then}
@@ -13,7 +13,6 @@ use Rattle.trio_text.specs.declared.lexeme.Lexeme.{Lexeme}
 use Rattle.trio_text.specs.declared.token.Token.{Token}
 use Rattle.history_table.specs.declared.fault.HistFault.{HistFault}
 use Rattle.history_table.specs.declared.fault.HistFault.TheVariants as fault
-use Rattle.history_table.specs.declared.line.Line.{Line}
 use Rattle.history_table.specs.declared.lines.Found.{Found}
 use Rattle.history_table.specs.Lines.{Numbered, Placed}
 use Rattle.history_table.specs.Rows.{same_row}

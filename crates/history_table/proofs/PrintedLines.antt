@@ -1,9 +1,15 @@
 -- Lines that are printed one after another.
-use Rattle.std.proofs.Common.{◌≡◌, ℕ, zero, suc, ◌+◌, ◌*◌, ◌-◌, ◌<◌, ◌≤◌, List, [], ◌∷◌, ◌++◌, length, take, drop, map, refl, sym, ap, ap₂, ◌∙◌, append_assoc, append-nil, arith, Option, None, Some, slice_get, flat_map}
+use Rattle.std.proofs.Common.{◌≡◌, ℕ, zero, suc, ◌+◌, ◌<◌, ◌≤◌, List, [], ◌∷◌, ◌++◌, length, take, drop, map, refl, sym, ap, ap₂, ◌∙◌, subst, true, append_assoc, append-nil, arith, Option, None, Some, slice_get, flat_map}
+use Rattle.std.specs.List.{enumerate_from}
+use Rattle.std.proofs.lemmas.Bool.{false≢true}
 use Rattle.std.proofs.lemmas.Option.{none-some, same_Some}
+use Rattle.trio_types.specs.declared.spec.Domain.{Domain}
 use Rattle.trio_types.specs.World.{World}
+use Rattle.trio_types.specs.Parts.{Parts}
+use Rattle.trio_types.specs.WellFormed.{has_bool}
+use Rattle.trio_types.proofs.Specs.{Formed}
 use Rattle.trio_types.specs.Cells.{Row}
-use Rattle.history_table.specs.Printed.{line_text, lines_text}
+use Rattle.history_table.specs.Texts.{line_text, lines_text}
 
 -- what stands for the elements from one on: its own, and that for those behind it
 pub flat_at : {X A : Type 0} (f : X → List A) (xs : List X) (k : ℕ) (x : X) → slice_get xs k ≡ Some x →
@@ -38,25 +44,16 @@ lines_at w (r ∷ rows) given zero row at =
     ap (λ x. line_text w x (take w.instants given) ++ lines_text w rows (drop w.instants given)) (same_Some r row at)
 lines_at w (r ∷ rows) given (suc k) row at = let next : suc k + 1 ≡ suc (k + 1) = omega arith in rw next (lines_at w rows given k row at)
 
-drop_on : {A : Type 0} (n m : ℕ) (xs : List A) → drop n (drop m xs) ≡ drop (m + n) xs
-drop_on n zero xs = refl
-drop_on zero (suc m) [] = refl
-drop_on (suc n) (suc m) [] = refl
-drop_on n (suc m) (x ∷ xs) = drop_on n m xs
-
 -- one line more is printed
-pub line_more : (w : World) (rows : List Row) (given : List (Option ℕ)) (k : ℕ) (row : Row) (entries : List (Option ℕ)) (text more whole : List ℕ) →
-    slice_get rows k ≡ Some row → entries ≡ take w.instants (drop (k * w.instants) given) →
-    text ++ lines_text w (drop k rows) (drop (k * w.instants) given) ≡ whole → more ≡ text ++ line_text w row entries →
-    more ++ lines_text w (drop (k + 1) rows) (drop ((k + 1) * w.instants) given) ≡ whole
-line_more w rows given k row entries text more whole at are so_far is =
-    let here = drop (k * w.instants) given in
-    let on : k * w.instants + w.instants ≡ (k + 1) * w.instants = omega arith in
-    let rest = lines_text w (drop (k + 1) rows) (drop ((k + 1) * w.instants) given) in
-    let line = line_text w row (take w.instants here) in
-    ap (λ t. t ++ rest) (is ∙ ap (λ es. text ++ line_text w row es) are) ∙ append_assoc text line rest
-    ∙ ap (λ g. text ++ (line ++ lines_text w (drop (k + 1) rows) g)) (sym (drop_on w.instants (k * w.instants) given ∙ ap (λ n. drop n given) on))
-    ∙ ap (λ t. text ++ t) (sym (lines_at w rows here k row at)) ∙ so_far
+pub line_more : (w : World) (rows : List Row) (rest behind entries : List (Option ℕ)) (k : ℕ) (row : Row) (text more whole : List ℕ) →
+    slice_get rows k ≡ Some row → entries ≡ take w.instants rest → behind ≡ drop w.instants rest →
+    text ++ lines_text w (drop k rows) rest ≡ whole → more ≡ text ++ line_text w row entries →
+    more ++ lines_text w (drop (k + 1) rows) behind ≡ whole
+line_more w rows rest behind entries k row text more whole at are left so_far is =
+    let others = lines_text w (drop (k + 1) rows) (drop w.instants rest) in
+    let line = line_text w row (take w.instants rest) in
+    ap₂ (λ t g. t ++ lines_text w (drop (k + 1) rows) g) (is ∙ ap (λ es. text ++ line_text w row es) are) left ∙ append_assoc text line others
+    ∙ ap (λ t. text ++ t) (sym (lines_at w rows rest k row at)) ∙ so_far
 
 -- all lines are printed
 pub lines_whole : (w : World) (rows : List Row) (given : List (Option ℕ)) (k : ℕ) (text whole : List ℕ) → length rows ≤ k →
@@ -69,3 +66,28 @@ lines_whole w rows given k text whole past so_far =
     none w [] given (suc k) past = refl
     none w (r ∷ rows) given zero past = absurd (omega (arith, past))
     none w (r ∷ rows) given (suc k) past = none w rows given k (omega (arith, past))
+
+-- one table more is numbered
+pub enumerate_at : {A : Type 0} (xs : List A) (n k : ℕ) (x : A) → slice_get xs k ≡ Some x → slice_get (enumerate_from n xs) k ≡ Some (n + k, x)
+enumerate_at [] n k x at = absurd (none-some x at)
+enumerate_at (y ∷ ys) n zero x at = let same : n ≡ n + 0 = omega arith in ap₂ (λ m z. Some (m, z)) same (same_Some y x at)
+enumerate_at (y ∷ ys) n (suc k) x at = let on : n + 1 + k ≡ n + suc k = omega arith in enumerate_at ys (n + 1) k x at ∙ ap (λ m. Some (m, x)) on
+
+pub length-enumerate : {A : Type 0} (xs : List A) (n : ℕ) → length (enumerate_from n xs) ≡ length xs
+length-enumerate [] n = refl
+length-enumerate (x ∷ xs) n = ap suc (length-enumerate xs (n + 1))
+
+-- a specification has a domain
+pub some_domain : (p : Parts) → Formed p → 0 < length p.domains
+some_domain p f = among p.domains p refl f.bool_first
+  where
+    among : (ds : List Domain) (p : Parts) → p.domains ≡ ds → has_bool p ≡ true → 0 < length p.domains
+    among [] p is first = absurd (false≢true (subst (λ ds. has_bool (record { instants = p.instants; domains = ds; items = p.items; axioms = p.axioms; goals = p.goals }) ≡ true) is first))
+    among (d ∷ ds) p is first = rw is (omega arith)
+
+-- the pieces of a line
+pub line_is : (old name entries named signed listed whole : List ℕ) → named ≡ old ++ name → signed ≡ named ++ 58 ∷ [] → listed ≡ signed ++ entries →
+    whole ≡ listed ++ 10 ∷ [] → whole ≡ old ++ (name ++ (58 ∷ (entries ++ 10 ∷ [])))
+line_is old name entries named signed listed whole n s l w =
+    w ∙ ap (λ t. t ++ 10 ∷ []) (l ∙ ap (λ t. t ++ entries) (s ∙ ap (λ t. t ++ 58 ∷ []) n))
+    ∙ append_assoc ((old ++ name) ++ 58 ∷ []) entries (10 ∷ []) ∙ append_assoc (old ++ name) (58 ∷ []) (entries ++ 10 ∷ []) ∙ append_assoc old name (58 ∷ (entries ++ 10 ∷ []))

@@ -1,5 +1,5 @@
 -- The rows of a specification, by the cells at instant 0, and the indexes of written values.
-use Rattle.std.proofs.Common.{◌≡◌, ℕ, zero, suc, ◌+◌, ◌*◌, ◌<◌, ◌≤◌, ℤ, pos, neg_ℤ, true, false, List, [], ◌∷◌, ◌++◌, length, take, get_or, map, Option, None, Some, slice_get, refl, sym, ap, ◌∙◌, subst, arith, position, append-nil, not, Bool, cond, nat_lt, Result, Ok, Err}
+use Rattle.std.proofs.Common.{◌≡◌, ℕ, ◌+◌, ◌*◌, ◌<◌, ◌≤◌, ℤ, pos, neg_ℤ, true, false, List, [], ◌∷◌, ◌++◌, length, take, get_or, map, Option, None, Some, slice_get, refl, sym, ap, ◌∙◌, arith, position, append-nil, not, Bool, cond, nat_lt, Ok, Err}
 use Rattle.std.specs.List.{flat_map, position_or_len}
 use Rattle.std.specs.Str.{bytes_eq}
 use Rattle.std.specs.Ordering.{int_eq}
@@ -19,7 +19,7 @@ use Rattle.trio_types.specs.Values.{index_of}
 use Rattle.trio_types.specs.Cells.{Row, Cell, the_cell, rows_of, cells_of}
 use Rattle.trio_types.specs.Verdict.{parts_of, world_of}
 use Rattle.trio_types.proofs.Specs.{formed, some_instant, within_limit}
-use Rattle.trio_types.proofs.CellNumbers.{cell_at, cell_count_is, few_rows as rows_few, small_size}
+use Rattle.trio_types.proofs.CellNumbers.{cell_at, few_rows as rows_few, small_size}
 use Rattle.trio_types.proofs.Domains.{length-integers}
 use Rattle.history_table.specs.declared.line.Value.{Value}
 use Rattle.history_table.specs.declared.line.Value.TheVariants as written
@@ -27,7 +27,6 @@ use Rattle.history_table.specs.declared.rows.RowParts.{RowParts}
 use Rattle.history_table.specs.declared.lines.Found.{Found}
 use Rattle.history_table.specs.Rows.{index_in, index_in_domain, value_index}
 use Rattle.history_table.specs.Decoding.{row_of, cells_at, has_row, joined, joined_of}
-use Rattle.history_table.specs.declared.fault.HistFault.{HistFault}
 use Rattle.history_table.specs.declared.fault.HistFault.TheVariants as fault
 
 pub there : {A : Type 0} (xs : List A) (k : ℕ) → k < length xs → (x : A) × (slice_get xs k ≡ Some x)

@@ -1,5 +1,5 @@
 -- A given history in which every value is known, value by value.
-use Rattle.std.proofs.Common.{◌≡◌, ℕ, ◌+◌, ◌<◌, ◌≤◌, Bool, true, false, cond, nat_lt, List, [], ◌∷◌, ◌++◌, length, take, map, get_or, set, position, Option, None, Some, refl, sym, ap, ◌∙◌, arith, is_none}
+use Rattle.std.proofs.Common.{◌≡◌, ℕ, ◌+◌, ◌<◌, ◌≤◌, nat_lt, List, [], ◌∷◌, ◌++◌, length, take, map, get_or, set, Option, None, Some, sym, ap, ◌∙◌, arith, is_none}
 use Rattle.std.specs.List.{position_or_len}
 use Rattle.std.proofs.Math.Path.{ap₂}
 use Rattle.std.proofs.Math.Logic.{⊎_elim}

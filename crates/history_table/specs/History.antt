@@ -1,5 +1,5 @@
 -- Which given history a text is, or its first fault.
-use Rattle.std.specs.Prelude.{◌≡◌, ◌≢◌, ℕ, ◌+◌, Bool, not, false, ◌==◌, is_none, if◌then◌else◌, List, [], ◌∷◌, ◌++◌, length, map, find, position, Option, None, Some, Result, Ok, Err}
+use Rattle.std.specs.Prelude.{◌≡◌, ◌≢◌, ℕ, ◌+◌, Bool, not, false, ◌==◌, if◌then◌else◌, List, [], ◌∷◌, ◌++◌, length, map, find, position, Option, None, Some, Result, Ok, Err}
 use Rattle.std.specs.List.{list_any, flat_map}
 use Rattle.std.specs.Option.{option_map, option_and_then}
 use Rattle.trio_text.specs.declared.token.Token.{Token}

@@ -1,6 +1,5 @@
--- The texts of rows, given histories, tables and lists of tables.
-use Rattle.std.specs.Prelude.{ℕ, ℤ, pos, ◌+ℤ◌, ◌+◌, List, [], ◌∷◌, ◌++◌, Option, None, Some, map, take, drop, length, slice_get, codes, decimal}
-use Rattle.std.specs.List.{flat_map, enumerate_from}
+-- The names of rows as they are printed.
+use Rattle.std.specs.Prelude.{ℕ, pos, ◌+ℤ◌, List, [], ◌∷◌, ◌++◌, Option, None, Some, slice_get}
 use Rattle.std.specs.Option.{unwrap_or}
 use Rattle.std.specs.Fmt.{signed_decimal}
 use Rattle.trio_types.specs.declared.spec.DomainKind.{DomainKind}
@@ -8,7 +7,7 @@ use Rattle.trio_types.specs.declared.spec.DomainKind.TheVariants as kind
 use Rattle.trio_types.specs.declared.spec.Domain.{Domain}
 use Rattle.trio_types.specs.declared.spec.Item.{Item}
 use Rattle.trio_types.specs.World.{World}
-use Rattle.trio_types.specs.Cells.{Row, rows_of}
+use Rattle.trio_types.specs.Cells.{Row}
 use Rattle.history_table.specs.Rows.{args_of}
 
 -- the value of this index: `0` and `1` for bool, the number for a range, the word for a list
@@ -43,41 +42,3 @@ name_of_item (Some item) = item.name
 abbrev pub row_name : World → Row → List ℕ
 row_name world row =
     name_of_item (slice_get world.items row.item) ++ args_text world (args_of (slice_get world.items row.item)) row.args
-
-abbrev pub value_domain : Option Item → ℕ
-value_domain None = 0
-value_domain (Some item) = item.value
-
--- a value, or `?` where it is not known
-abbrev pub entry_text : World → ℕ → Option ℕ → List ℕ
-entry_text world d None = 63 ∷ []
-entry_text world d (Some index) = value_text world d index
-
-abbrev pub entry_behind_blank : World → ℕ → Option ℕ → List ℕ
-entry_behind_blank world d entry = 32 ∷ entry_text world d entry
-
--- the line of a row: its name, `:`, and a blank and an entry for each instant
-abbrev pub line_text : World → Row → List (Option ℕ) → List ℕ
-line_text world row entries =
-    row_name world row ++ 58 ∷ flat_map (entry_behind_blank world (value_domain (slice_get world.items row.item))) entries ++ 10 ∷ []
-
--- the lines of these rows, each with as many entries as there are instants
-abbrev pub lines_text : World → List Row → List (Option ℕ) → List ℕ
-lines_text world [] given = []
-lines_text world (row ∷ rows) given = line_text world row (take world.instants given) ++ lines_text world rows (drop world.instants given)
-
--- the text of a given history
-unfoldable pub given_text : World → List (Option ℕ) → List ℕ
-given_text world given = lines_text world (rows_of world) given
-
--- the text of a table
-abbrev pub table_text : World → List ℕ → List ℕ
-table_text world table = given_text world (map Some table)
-
--- the k-th table of a list, counted from 1, behind a line with its number
-abbrev pub numbered_text : World → ℕ × List ℕ → List ℕ
-numbered_text world p = codes "history " ++ decimal p.0 ++ 10 ∷ table_text world p.1
-
--- how many histories there are, and each
-abbrev pub list_text : World → List (List ℕ) → List ℕ
-list_text world tables = codes "histories " ++ decimal (length tables) ++ 10 ∷ flat_map (numbered_text world) (enumerate_from 1 tables)

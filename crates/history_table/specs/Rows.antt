@@ -1,5 +1,5 @@
 -- Which row of a specification a line names, and what its entries give the cells.
-use Rattle.std.specs.Prelude.{ℕ, ℤ, pos, neg_ℤ, Bool, true, false, ◌&&◌, ◌==◌, is_none, List, [], ◌∷◌, map, position, length, Option, None, Some, slice_get}
+use Rattle.std.specs.Prelude.{ℕ, pos, neg_ℤ, Bool, true, false, ◌&&◌, ◌==◌, is_none, List, [], ◌∷◌, position, Option, None, Some, slice_get}
 use Rattle.std.specs.Option.{option_map, option_and_then}
 use Rattle.std.specs.Str.{bytes_eq}
 use Rattle.trio_types.specs.declared.spec.DomainKind.{DomainKind}

@@ -3,7 +3,6 @@ ghost use Rattle.std.specs.Prelude.{◌≡◌, [], ◌∷◌, ◌++◌, ◌<◌,
 ghost use Rattle.history_table.specs.Fitting.{first_unknown};
 
 use crate::table::Table;
-
 use std::alloc::{AllocError, Global};
 use std::marker::Model;
 use trio_base::List;

@@ -1,4 +1,4 @@
-//! The texts of rows, given histories, tables and lists of tables.
+//! The names of rows as they are printed.
 ghost use Rattle.std.specs.Prelude.{◌≡◌, ◌<◌, ◌≤◌, ◌*◌, ◌+◌, ◌++◌, ◌∷◌, [], ℕ, length, map, Some, slice_get, slice_index_or, take, drop, zip, IfOk, OnOk, string_bytes, decimal, pos, negsuc, ◌≤ℤ◌, ◌+ℤ◌};
 ghost use Rattle.std.specs.Fmt.{signed_decimal};
 ghost use Rattle.std.specs.Option.{option_map, unwrap_or};
@@ -6,7 +6,7 @@ ghost use Rattle.std.specs.List.{flat_map};
 ghost use Rattle.trio_types.specs.Verdict.{world_of};
 ghost use Rattle.trio_types.specs.Cells.{rows_of};
 ghost use Rattle.history_table.specs.Fitting.{IsGiven};
-ghost use Rattle.history_table.specs.Printed.{value_text, args_text, values_text, name_of_item, row_name, value_domain, entry_behind_blank, line_text, lines_text, given_text};
+ghost use Rattle.history_table.specs.Printed.{value_text, args_text, values_text, row_name};
 ghost use Rattle.history_table.specs.Decoding.{row_of};
 
 use crate::rows::{RowParts, row_parts};
@@ -26,12 +26,7 @@ pub fn row_name(alloc: Global, spec: &Spec, row: u32) -> Result<Name, AllocError
 }
 
 /// Appends the name of a row.
-pub fn add_name(
-    alloc: Global,
-    text: &mut String,
-    spec: &Spec,
-    row: &RowParts,
-) -> Result<(), AllocError>
+pub fn add_name(alloc: Global, text: &mut String, spec: &Spec, row: &RowParts) -> Result<(), AllocError>
     ensures { OnOk result (string_bytes text.new ≡ string_bytes text.old ++ row_name (world_of spec.now) (row_of row.now)) }
 {
     let Some(item) = spec.items.as_slice().get(row.item as usize) else {

@@ -3,7 +3,7 @@ ghost use Rattle.std.specs.Prelude.{◌≡◌, ◌<◌, ◌*◌, ◌≤◌, ◌+
 ghost use Rattle.std.specs.List.{flat_map, enumerate_from, list_all};
 ghost use Rattle.trio_types.specs.Verdict.{world_of};
 ghost use Rattle.trio_types.specs.Cells.{cells_of};
-ghost use Rattle.history_table.specs.Printed.{value_domain, entry_behind_blank, entry_text, line_text, lines_text, given_text, table_text, list_text, numbered_text};
+ghost use Rattle.history_table.specs.Texts.{value_domain, entry_behind_blank, entry_text, line_text, lines_text, given_text, table_text, list_text, numbered_text};
 ghost use Rattle.history_table.specs.Decoding.{row_of};
 
 use crate::given::Given;
@@ -86,11 +86,12 @@ fn add_lines(
     requires { length entries.now ≡ length (cells_of (world_of spec.now)) }
     ensures { OnOk result (string_bytes text.new ≡ string_bytes text.old ++ given_text (world_of spec.now) entries.now) }
 {
-    let instants = spec.instants as usize;
+    let mut rest = entries;
     for row in 0..row_count(spec) {
         let parts = row_parts(alloc, spec, row)?;
-        let start = row as usize * instants;
-        add_line(alloc, text, spec, &parts, &entries[start..start + instants])?;
+        let (line, behind) = rest.split_at(spec.instants as usize);
+        add_line(alloc, text, spec, &parts, line)?;
+        rest = behind;
     }
     Ok(())
 }
@@ -111,7 +112,8 @@ fn add_line(
     for entry in entries {
         add_entry(alloc, text, spec, domain, *entry)?;
     }
-    text.push_str("\n")
+    text.push_str("\n")?;
+    Ok(())
 }
 
 /// Appends a blank and a value, or `?` where it is not known.

@@ -1,4 +1,4 @@
-use Rattle.std.proofs.Common.{[], ◌∷◌, ◌++◌, sym, ◌∙◌, subst, arith, ◌≡◌, None, IfErr}
+use Rattle.std.proofs.Common.{[], sym, subst, arith, ◌≡◌, None}
 use Rattle.trio_types.specs.Verdict.{world_of}
 use Rattle.history_table.specs.History.{read_fault, lines_fault}
 use Rattle.history_table.specs.Decoding.{line_of, lines_by, placed_of, has_row, IsFault}

@@ -1,4 +1,4 @@
-use Rattle.std.proofs.Common.{◌≡◌, ap, sym, ◌∙◌, slice_get, length, refl}
+use Rattle.std.proofs.Common.{ap, sym, ◌∙◌, slice_get, length, refl}
 use Rattle.std.proofs.lemmas.Option.{slice_get_within, slice_get_read}
 use Rattle.trio_types.specs.Verdict.{parts_of}
 use Rattle.trio_types.proofs.Specs.{formed, argument_domain}

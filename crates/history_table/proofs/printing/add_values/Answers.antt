@@ -1,4 +1,4 @@
-use Rattle.std.proofs.Common.{◌≡◌, ◌<◌, ◌≤◌, ◌++◌, ◌∷◌, [], get_or, length, min, string_bytes, sym, ap, ◌∙◌, arith, refl, slice_get, Some}
+use Rattle.std.proofs.Common.{◌++◌, ◌∷◌, [], get_or, string_bytes, arith, refl}
 use lib.Utf8.{encode}
 use Rattle.std.proofs.lemmas.Option.{slice_get-get_or}
 use Rattle.trio_types.specs.Verdict.{world_of}
@@ -14,8 +14,7 @@ loop-place-preserved c =
     let vs = c.args.values.now in
     let k = c.loop-place.place in
     let at = slice_get-get_or ds k 0 (omega (arith, c.loop-place-test.true, c.min-place-end.ensures)) in
-    let at_value = slice_get-get_or vs k 0 (omega (arith, c.loop-place-test.true, c.min-place-end.ensures)) in
-    (
+    let at_value = slice_get-get_or vs k 0 (omega (arith, c.loop-place-test.true, c.min-place-end.ensures)) in (
       (44 ∷ [], (refl, refl)),
       value_more w (string_bytes c.loop-place.text) (string_bytes c.push_str.new.self) (string_bytes c.add_value.new.text)
           (string_bytes c.args.text.now ++ values_text w c.args.first.now ds vs) c.loop-place.sign.now ds vs k (get_or ds k 0) (get_or vs k 0) at at_value

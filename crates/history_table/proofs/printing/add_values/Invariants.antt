@@ -10,4 +10,4 @@ abbrev pub invariant-loop-place : goal.invariant-loop-place
 invariant-loop-place l =
     shadow (Utf8 l.sign)
     × (string_bytes l.text ++ values_text (world_of l.spec) l.sign (drop l.place l.domains) (drop l.place l.values)
-      ≡ string_bytes l.initial.text ++ values_text (world_of l.spec) l.first l.domains l.values)
+    ≡ string_bytes l.initial.text ++ values_text (world_of l.spec) l.first l.domains l.values)

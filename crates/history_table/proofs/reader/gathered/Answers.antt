@@ -1,4 +1,3 @@
-use Rattle.std.proofs.Common.{◌≡◌}
 use Rattle.history_table.proofs.RowNumbers.{gather_more}
 use Rattle.history_table.proofs.reader.gathered.Goals as goal
 

@@ -1,4 +1,4 @@
-use Rattle.std.proofs.Common.{◌≡◌, ◌<◌, ◌≤◌, sym, ap, ◌∙◌, arith, subst, length, Some, None, position, not, map}
+use Rattle.std.proofs.Common.{ap, ◌∙◌, arith, length, position, not}
 use Rattle.trio_types.specs.Verdict.{world_of}
 use Rattle.history_table.specs.Decoding.{row_of, has_row, cells_at}
 use Rattle.std.specs.List.{flat_map}

@@ -1,4 +1,4 @@
-use Rattle.std.proofs.Common.{◌≡◌, sym, ap, ◌∙◌, subst, [], None, Err, IfOk}
+use Rattle.std.proofs.Common.{sym, ap, ◌∙◌, subst, [], IfOk}
 use Rattle.trio_types.specs.Verdict.{world_of}
 use Rattle.history_table.specs.History.{lines_fault, IsHistoryAnswer}
 use Rattle.history_table.specs.Decoding.{lines_by, placed_of, AreFound, IsFault, IsJoined}

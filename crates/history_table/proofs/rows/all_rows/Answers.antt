@@ -1,4 +1,4 @@
-use Rattle.std.proofs.Common.{◌≡◌, ◌∙◌, ◌++◌, ◌∷◌, [], sym, ap, map}
+use Rattle.std.proofs.Common.{◌∙◌, ap, map}
 use Rattle.history_table.specs.Decoding.{row_of}
 use Rattle.history_table.proofs.RowNumbers.{row_more}
 use Rattle.history_table.proofs.rows.all_rows.Goals as goal

@@ -1,9 +1,7 @@
-use Rattle.std.proofs.Common.{◌≡◌, ◌<◌, ◌≤◌, ◌++◌, ◌∷◌, [], ◌+◌, drop, refl, get_or, length, slice_get, subst, sym, ap, ◌∙◌, arith, None, Some}
+use Rattle.std.proofs.Common.{◌≡◌, ◌+◌, drop, refl, get_or, length, slice_get, sym, ap, ◌∙◌, arith, Some}
 use Rattle.std.proofs.lemmas.Option.{slice_get-get_or, slice_get_read, slice_get_within}
-use Rattle.trio_types.specs.declared.spec.Spec.{Spec}
 use Rattle.trio_types.specs.Verdict.{parts_of, world_of}
 use Rattle.trio_types.proofs.Specs.{formed, argument_domain}
-use Rattle.history_table.specs.declared.line.Value.{Value}
 use Rattle.history_table.specs.Rows.{args_of, arg_indexes}
 use Rattle.history_table.proofs.Arguments.{other_number, behind, behind_start, found_index, no_index, all_found}
 use Rattle.history_table.proofs.rows.arg_indexes.Goals as goal

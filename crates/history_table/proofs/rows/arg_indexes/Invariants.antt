@@ -1,6 +1,6 @@
-use Rattle.std.proofs.Common.{◌≡◌, drop, slice_get}
+use Rattle.std.proofs.Common.{◌≡◌, drop}
 use Rattle.trio_types.specs.Verdict.{world_of}
-use Rattle.history_table.specs.Rows.{args_of, arg_indexes}
+use Rattle.history_table.specs.Rows.{arg_indexes}
 use Rattle.history_table.proofs.Arguments.{behind}
 use Rattle.history_table.proofs.rows.arg_indexes.Given as goal
 

@@ -1,4 +1,4 @@
-use Rattle.std.proofs.Common.{◌≡◌, ◌/◌, ap, ◌∙◌}
+use Rattle.std.proofs.Common.{◌/◌, ap, ◌∙◌}
 use Rattle.std.proofs.Math.Nat.{mul-div_cancel}
 use Rattle.trio_types.specs.Cells.{rows_of}
 use Rattle.trio_types.specs.Verdict.{parts_of, world_of}

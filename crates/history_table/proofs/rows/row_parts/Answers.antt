@@ -1,4 +1,4 @@
-use Rattle.std.proofs.Common.{◌≡◌, ◌<◌, sym, ap, ◌∙◌, arith, Some, take}
+use Rattle.std.proofs.Common.{sym, ap, ◌∙◌, arith, Some}
 use Rattle.history_table.proofs.RowNumbers.{first_cell, row_is}
 use Rattle.history_table.proofs.rows.row_parts.Goals as goal
 

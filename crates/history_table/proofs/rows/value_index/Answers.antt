@@ -1,4 +1,4 @@
-use Rattle.std.proofs.Common.{◌≡◌, ◌<◌, ◌≤◌, sym, ◌∙◌, subst, ap, arith, None, Some, length}
+use Rattle.std.proofs.Common.{ap, arith, length}
 use Rattle.trio_types.specs.Verdict.{parts_of}
 use Rattle.trio_types.proofs.Specs.{formed, some_value}
 use Rattle.trio_types.proofs.Domains.{count_of_values}

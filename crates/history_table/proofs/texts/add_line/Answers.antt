@@ -1,19 +1,30 @@
-use Rattle.std.proofs.Common.{rules, ◌≡◌, ◌<◌, ◌*◌, ◌≤◌, ◌+◌, ◌++◌, ◌∷◌, [], ℕ, List, length, map, Some, slice_get, IfOk, OnOk, string_bytes, ◌-◌, ◌/◌, ◌%◌, Bool, true, false, nat_eq, nat_lt, slice_index_or, slice_set, bit_and, bit_or, Fits, w8, w32, w64, Bor, MutBor}
-use Rattle.std.specs.List.{flat_map, enumerate_from, list_all}
+use Rattle.std.proofs.Common.{◌≡◌, ◌<◌, ◌≤◌, ◌++◌, ◌∷◌, [], drop, length, string_bytes, sym, ap, ◌∙◌, arith, refl, slice_get, Some, None, get_or, flat_map, append_assoc, OnOk}
+use Rattle.std.proofs.lemmas.Option.{slice_get-get_or}
 use Rattle.trio_types.specs.Verdict.{world_of}
-use Rattle.trio_types.specs.Cells.{cells_of}
-use Rattle.history_table.specs.Printed.{value_domain, entry_behind_blank, entry_text, line_text, lines_text, given_text, table_text, list_text, numbered_text}
+use Rattle.history_table.specs.Printed.{row_name}
+use Rattle.history_table.specs.Texts.{entry_behind_blank, line_text, value_domain}
 use Rattle.history_table.specs.Decoding.{row_of}
+use Rattle.history_table.proofs.PrintedLines.{flat_more, flat_whole, line_is}
 use Rattle.history_table.proofs.texts.add_line.Goals as goal
 
--- src/texts.rt:111:5
 pub loop-entry-init : goal.loop-entry-init
-loop-entry-init c = ?
+loop-entry-init c = refl
 
--- src/texts.rt:111:5
 pub loop-entry-preserved : goal.loop-entry-preserved
-loop-entry-preserved c = ?
+loop-entry-preserved c =
+    let w = world_of c.args.spec.now in
+    let f = entry_behind_blank w c.value_domain-domain.result in
+    let all = c.args.entries.now in
+    let k = c.loop-entry.entry-index in
+    flat_more f all k (get_or all k None) (string_bytes c.loop-entry.text) (string_bytes c.add_entry.new.text) (string_bytes c.push_str.new.self ++ flat_map f all)
+    (slice_get-get_or all k None c.loop-entry-test.true) c.loop-entry.invariant c.in_ok-add_entry.ensures
 
--- src/texts.rt:99:1
 pub returns : goal.returns
-returns c = ?
+returns c =
+    let w = world_of c.args.spec.now in
+    let f = entry_behind_blank w c.value_domain-domain.result in
+    let all = c.args.entries.now in
+    let listed = flat_whole f all c.loop-entry.entry-index (string_bytes c.loop-entry.text) (string_bytes c.push_str.new.self ++ flat_map f all) c.loop-entry-test.false c.loop-entry.invariant in
+    line_is (string_bytes c.args.text.now) (row_name w (row_of c.args.row.now)) (flat_map f all) (string_bytes c.add_name.new.text) (string_bytes c.push_str.new.self) (string_bytes c.loop-entry.text)
+    (string_bytes c.push_str-2.new.self) c.in_ok-add_name.ensures c.in_ok-push_str.ensures.bytes listed c.in_ok-push_str-2.ensures.bytes
+    ∙ ap (λ d. string_bytes c.args.text.now ++ (row_name w (row_of c.args.row.now) ++ (58 ∷ (flat_map (entry_behind_blank w d) all ++ 10 ∷ [])))) c.value_domain-domain.ensures.is

@@ -1,27 +1,27 @@
-use Rattle.std.proofs.Common.{rules, ◌≡◌, ◌<◌, ◌*◌, ◌≤◌, ◌+◌, ◌++◌, ◌∷◌, [], ℕ, List, length, map, Some, slice_get, IfOk, OnOk, string_bytes, ◌-◌, ◌/◌, ◌%◌, Bool, true, false, nat_eq, nat_lt, slice_index_or, slice_set, bit_and, bit_or, Fits, w8, w32, w64, Bor, MutBor}
-use Rattle.std.specs.List.{flat_map, enumerate_from, list_all}
+use Rattle.std.proofs.Common.{◌≡◌, ◌+◌, ◌*◌, ◌≤◌, ◌<◌, ◌++◌, drop, length, string_bytes, sym, ap, ◌∙◌, arith, refl}
+use Rattle.trio_types.specs.Cells.{rows_of, cells_of}
 use Rattle.trio_types.specs.Verdict.{world_of}
-use Rattle.trio_types.specs.Cells.{cells_of}
-use Rattle.history_table.specs.Printed.{value_domain, entry_behind_blank, entry_text, line_text, lines_text, given_text, table_text, list_text, numbered_text}
+use Rattle.trio_types.proofs.CellNumbers.{cell_count_is}
+use Rattle.history_table.specs.Texts.{lines_text, given_text}
 use Rattle.history_table.specs.Decoding.{row_of}
+use Rattle.history_table.proofs.PrintedLines.{line_more, lines_whole}
 use Rattle.history_table.proofs.texts.add_lines.Goals as goal
 
--- src/texts.rt:90:5
 pub loop-row-init : goal.loop-row-init
-loop-row-init c = ?
+loop-row-init c = (refl, omega arith)
 
--- src/texts.rt:93:45
-pub offset_bounds-entries-start : goal.offset_bounds-entries-start
-offset_bounds-entries-start c = ?
-
--- src/texts.rt:93:45
-pub slice_bounds-add_line-end : goal.slice_bounds-add_line-end
-slice_bounds-add_line-end c = ?
-
--- src/texts.rt:90:5
 pub loop-row-preserved : goal.loop-row-preserved
-loop-row-preserved c = ?
+loop-row-preserved c =
+    let w = world_of c.args.spec.now in
+    let k = c.loop-row.row in
+    let rest = c.loop-row.rest.now in (
+      line_more w (rows_of w) rest c.split_at.result.1.now c.split_at.result.0.now k (row_of c.in_ok-parts.parts) (string_bytes c.loop-row.text) (string_bytes c.add_line.new.text)
+          (string_bytes c.args.text.now ++ lines_text w (rows_of w) c.args.entries.now) c.in_ok-parts.ensures c.split_at.ensures.front c.split_at.ensures.back c.loop-row.invariant.0 c.in_ok-add_line.ensures,
+      omega (arith, c.split_at.ensures.back_len, c.loop-row.invariant.1),
+    )
 
--- src/texts.rt:80:1
 pub returns : goal.returns
-returns c = ?
+returns c =
+    let w = world_of c.args.spec.now in
+    let past : length (rows_of w) ≤ c.loop-row.row = omega (arith, c.loop-row-test.false, c.row_count-row-end.ensures) in
+    lines_whole w (rows_of w) c.loop-row.rest.now c.loop-row.row (string_bytes c.loop-row.text) (string_bytes c.args.text.now ++ given_text w c.args.entries.now) past c.loop-row.invariant.0

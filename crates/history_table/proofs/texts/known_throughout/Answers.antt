@@ -1,19 +1,18 @@
-use Rattle.std.proofs.Common.{rules, ◌≡◌, ◌<◌, ◌*◌, ◌≤◌, ◌+◌, ◌++◌, ◌∷◌, [], ℕ, List, length, map, Some, slice_get, IfOk, OnOk, string_bytes, ◌-◌, ◌/◌, ◌%◌, Bool, true, false, nat_eq, nat_lt, slice_index_or, slice_set, bit_and, bit_or, Fits, w8, w32, w64, Bor, MutBor}
-use Rattle.std.specs.List.{flat_map, enumerate_from, list_all}
-use Rattle.trio_types.specs.Verdict.{world_of}
-use Rattle.trio_types.specs.Cells.{cells_of}
-use Rattle.history_table.specs.Printed.{value_domain, entry_behind_blank, entry_text, line_text, lines_text, given_text, table_text, list_text, numbered_text}
-use Rattle.history_table.specs.Decoding.{row_of}
+use Rattle.std.proofs.Common.{◌≡◌, ◌+◌, ◌∷◌, [], ◌++◌, map, Some, take, length, sym, ap, ◌∙◌, get_or, slice_index_or}
+use Rattle.std.proofs.lemmas.List.{map-append, take_more, take_all}
 use Rattle.history_table.proofs.texts.known_throughout.Goals as goal
 
--- src/texts.rt:73:5
 pub loop-index-init : goal.loop-index-init
-loop-index-init c = ?
+loop-index-init c = c.in_ok-reserve.ensures.items ∙ c.new-known.ensures.items
 
--- src/texts.rt:73:5
 pub loop-index-preserved : goal.loop-index-preserved
-loop-index-preserved c = ?
+loop-index-preserved c =
+    let all = c.args.indexes.now in
+    let k = c.loop-index.index-index in
+    c.in_ok-push.ensures.items
+    ∙ ap (λ xs. xs ++ Some (get_or all k 0) ∷ []) c.loop-index.invariant
+    ∙ sym (map-append Some (take k all) (get_or all k 0 ∷ []))
+    ∙ ap (map Some) (sym (take_more all k 0 c.loop-index-test.true))
 
--- src/texts.rt:68:1
 pub returns : goal.returns
-returns c = ?
+returns c = c.from_vec.ensures ∙ c.loop-index.invariant ∙ ap (map Some) (take_all c.loop-index.index-index c.args.indexes.now c.loop-index-test.false)

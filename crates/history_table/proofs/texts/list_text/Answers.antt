@@ -2,13 +2,9 @@ use Rattle.std.proofs.Common.{rules, ◌≡◌, ◌<◌, ◌*◌, ◌≤◌, ◌
 use Rattle.std.specs.List.{flat_map, enumerate_from, list_all}
 use Rattle.trio_types.specs.Verdict.{world_of}
 use Rattle.trio_types.specs.Cells.{cells_of}
-use Rattle.history_table.specs.Printed.{value_domain, entry_behind_blank, entry_text, line_text, lines_text, given_text, table_text, list_text, numbered_text}
+use Rattle.history_table.specs.Texts.{value_domain, entry_behind_blank, entry_text, line_text, lines_text, given_text, table_text, list_text, numbered_text}
 use Rattle.history_table.specs.Decoding.{row_of}
 use Rattle.history_table.proofs.texts.list_text.Goals as goal
-
--- src/texts.rt:44:5
-pub loop-place-init : goal.loop-place-init
-loop-place-init c = ?
 
 -- src/texts.rt:44:5
 pub loop-place-preserved : goal.loop-place-preserved

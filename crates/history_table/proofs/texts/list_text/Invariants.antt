@@ -1,7 +1,7 @@
 use Rattle.std.proofs.Common.{◌≡◌, ◌+◌, ◌++◌, drop, string_bytes, flat_map}
 use Rattle.std.specs.List.{enumerate_from}
 use Rattle.trio_types.specs.Verdict.{world_of}
-use Rattle.history_table.specs.Printed.{numbered_text, list_text}
+use Rattle.history_table.specs.Texts.{numbered_text, list_text}
 use Rattle.history_table.proofs.texts.list_text.Given as goal
 
 -- what stands there, with the tables that are still to come, is the whole

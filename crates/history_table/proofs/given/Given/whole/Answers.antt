@@ -1,4 +1,4 @@
-use Rattle.std.proofs.Common.{◌≡◌, ◌<◌, sym, ap, ◌∙◌, Some, None, arith, length, take, map, get_or, set, subst, ◌+◌, List, ℕ, Option}
+use Rattle.std.proofs.Common.{◌≡◌, ◌<◌, sym, ap, ◌∙◌, Some, None, length, take, map, get_or, set, subst, ◌+◌}
 use Rattle.std.proofs.lemmas.List.{length-set}
 use Rattle.history_table.specs.Fitting.{first_unknown}
 use Rattle.history_table.proofs.Whole.{is_known, known_more}
@@ -15,8 +15,7 @@ loop-cell-preserved c =
     elim c.match-index.branch [
       | in-Some-index w ↦
           let is = sym (ap (λ xs. get_or xs cell None) (sym same) ∙ w.in-Some-index.is) in
-          let more : c.match-index.into ≡ set table cell w.in-Some-index.index = w.into-is ∙ w.set.ensures in
-          (
+          let more : c.match-index.into ≡ set table cell w.in-Some-index.index = w.into-is ∙ w.set.ensures in (
             known_more given table cell w.in-Some-index.index inside c.loop-cell.invariant.1 is c.loop-cell.invariant.0 ∙ ap (λ ys. map Some (take (cell + 1) ys)) (sym more),
             ap length more ∙ length-set table cell w.in-Some-index.index ∙ c.loop-cell.invariant.1,
           )

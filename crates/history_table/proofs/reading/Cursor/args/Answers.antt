@@ -1,8 +1,8 @@
-use Rattle.std.proofs.Common.{◌≡◌, sym, ◌∙◌, ap, true, false, [], ◌∷◌, ◌++◌, subst, None, Some}
+use Rattle.std.proofs.Common.{sym, ◌∙◌, ap, true, false, [], ◌∷◌, ◌++◌, subst, Some}
 use Rattle.trio_text.specs.declared.lexeme.Lexeme.TheVariants as lexeme
 use Rattle.trio_text.specs.declared.token.Symbol.TheVariants as symbol
-use Rattle.history_table.specs.Decoding.{args_from, args_front, TookValue, Lacks}
-use Rattle.history_table.proofs.Decodes.{behind_args, behind_none, behind_one, behind_end, behind_nothing, takes_value, no_args, no_more, no_brackets}
+use Rattle.history_table.specs.Decoding.{args_from, TookValue, Lacks}
+use Rattle.history_table.proofs.Decodes.{behind_args, behind_none, behind_one, behind_end, behind_nothing, takes_value, no_args, no_more}
 use Rattle.history_table.proofs.reading.Cursor.args.Goals as goal
 
 pub loop-found-init : goal.loop-found-init
