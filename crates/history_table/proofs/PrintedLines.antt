@@ -1,5 +1,5 @@
 -- Lines that are printed one after another.
-use Rattle.std.proofs.Common.{◌≡◌, ℕ, zero, suc, ◌+◌, ◌<◌, ◌≤◌, List, [], ◌∷◌, ◌++◌, length, take, drop, map, refl, sym, ap, ap₂, ◌∙◌, subst, true, append_assoc, append-nil, arith, Option, None, Some, slice_get, flat_map}
+use Rattle.std.proofs.Common.{◌≡◌, ℕ, zero, suc, ◌+◌, ◌<◌, ◌≤◌, List, [], ◌∷◌, ◌++◌, length, take, drop, refl, sym, ap, ap₂, ◌∙◌, subst, true, append_assoc, append-nil, arith, Option, Some, slice_get, flat_map}
 use Rattle.std.specs.List.{enumerate_from}
 use Rattle.std.proofs.lemmas.Bool.{false≢true}
 use Rattle.std.proofs.lemmas.Option.{none-some, same_Some}
@@ -91,3 +91,12 @@ pub line_is : (old name entries named signed listed whole : List ℕ) → named 
 line_is old name entries named signed listed whole n s l w =
     w ∙ ap (λ t. t ++ 10 ∷ []) (l ∙ ap (λ t. t ++ entries) (s ∙ ap (λ t. t ++ 58 ∷ []) n))
     ∙ append_assoc ((old ++ name) ++ 58 ∷ []) entries (10 ∷ []) ∙ append_assoc (old ++ name) (58 ∷ []) (entries ++ 10 ∷ []) ∙ append_assoc old name (58 ∷ (entries ++ 10 ∷ []))
+
+-- a table behind its number
+pub number_is : (old head table headed more : List ℕ) → headed ≡ old ++ head → more ≡ headed ++ table → more ≡ old ++ (head ++ table)
+number_is old head table headed more h m = m ∙ ap (λ t. t ++ table) h ∙ append_assoc old head table
+
+-- a text whose first line ends with a number
+pub headed : (word number rest text : List ℕ) → text ≡ word ++ (number ++ 10 ∷ []) → text ++ rest ≡ word ++ (number ++ (10 ∷ rest))
+headed word number rest text is =
+    ap (λ t. t ++ rest) is ∙ append_assoc word (number ++ 10 ∷ []) rest ∙ ap (λ t. word ++ t) (append_assoc number (10 ∷ []) rest)

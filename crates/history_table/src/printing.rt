@@ -26,7 +26,12 @@ pub fn row_name(alloc: Global, spec: &Spec, row: u32) -> Result<Name, AllocError
 }
 
 /// Appends the name of a row.
-pub fn add_name(alloc: Global, text: &mut String, spec: &Spec, row: &RowParts) -> Result<(), AllocError>
+pub fn add_name(
+    alloc: Global,
+    text: &mut String,
+    spec: &Spec,
+    row: &RowParts,
+) -> Result<(), AllocError>
     ensures { OnOk result (string_bytes text.new ≡ string_bytes text.old ++ row_name (world_of spec.now) (row_of row.now)) }
 {
     let Some(item) = spec.items.as_slice().get(row.item as usize) else {

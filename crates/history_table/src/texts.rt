@@ -51,12 +51,7 @@ pub fn list_text(alloc: Global, spec: &Spec, tables: &Tables) -> Result<Bytes, A
 }
 
 /// Appends the text of a table.
-fn add_table(
-    alloc: Global,
-    text: &mut String,
-    spec: &Spec,
-    table: &Table,
-) -> Result<(), AllocError>
+fn add_table(alloc: Global, text: &mut String, spec: &Spec, table: &Table) -> Result<(), AllocError>
     requires { length table.now ≡ length (cells_of (world_of spec.now)) }
     ensures { OnOk result (string_bytes text.new ≡ string_bytes text.old ++ table_text (world_of spec.now) table.now) }
 {

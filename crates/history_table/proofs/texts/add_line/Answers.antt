@@ -1,8 +1,8 @@
-use Rattle.std.proofs.Common.{◌≡◌, ◌<◌, ◌≤◌, ◌++◌, ◌∷◌, [], drop, length, string_bytes, sym, ap, ◌∙◌, arith, refl, slice_get, Some, None, get_or, flat_map, append_assoc, OnOk}
+use Rattle.std.proofs.Common.{◌++◌, ◌∷◌, [], string_bytes, ap, ◌∙◌, refl, None, get_or, flat_map}
 use Rattle.std.proofs.lemmas.Option.{slice_get-get_or}
 use Rattle.trio_types.specs.Verdict.{world_of}
 use Rattle.history_table.specs.Printed.{row_name}
-use Rattle.history_table.specs.Texts.{entry_behind_blank, line_text, value_domain}
+use Rattle.history_table.specs.Texts.{entry_behind_blank}
 use Rattle.history_table.specs.Decoding.{row_of}
 use Rattle.history_table.proofs.PrintedLines.{flat_more, flat_whole, line_is}
 use Rattle.history_table.proofs.texts.add_line.Goals as goal

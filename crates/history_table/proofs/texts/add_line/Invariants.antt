@@ -1,7 +1,6 @@
-use Rattle.std.proofs.Common.{◌≡◌, ◌++◌, ◌∷◌, [], drop, string_bytes, flat_map}
+use Rattle.std.proofs.Common.{◌≡◌, ◌++◌, drop, string_bytes, flat_map}
 use Rattle.trio_types.specs.Verdict.{world_of}
 use Rattle.history_table.specs.Texts.{entry_behind_blank}
-use Rattle.history_table.specs.Decoding.{row_of}
 use Rattle.history_table.proofs.texts.add_line.Given as goal
 
 -- what stands there, with what is still to come, is the line without its end

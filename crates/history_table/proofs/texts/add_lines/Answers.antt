@@ -1,4 +1,4 @@
-use Rattle.std.proofs.Common.{◌≡◌, ◌+◌, ◌*◌, ◌≤◌, ◌<◌, ◌++◌, drop, length, string_bytes, sym, ap, ◌∙◌, arith, refl}
+use Rattle.std.proofs.Common.{◌≡◌, ◌+◌, ◌*◌, ◌≤◌, ◌++◌, length, string_bytes, arith, refl, mul-le-mul_left}
 use Rattle.trio_types.specs.Cells.{rows_of, cells_of}
 use Rattle.trio_types.specs.Verdict.{world_of}
 use Rattle.trio_types.proofs.CellNumbers.{cell_count_is}
@@ -9,6 +9,17 @@ use Rattle.history_table.proofs.texts.add_lines.Goals as goal
 
 pub loop-row-init : goal.loop-row-init
 loop-row-init c = (refl, omega arith)
+
+pub split_at-requires : goal.split_at-requires
+split_at-requires c =
+    let w = world_of c.args.spec.now in
+    let n = c.args.spec.now.instants in
+    let k = c.loop-row.row in
+    let rows = length (rows_of w) in
+    let some : k + 1 ≤ rows = omega (arith, c.loop-row-test.true, c.row_count-row-end.ensures) in
+    let more : n * (k + 1) ≤ n * rows = mul-le-mul_left n some in
+    let cells : length (cells_of w) ≡ rows * n = cell_count_is w in
+    omega (arith, more, cells, c.requires, c.loop-row.invariant.1)
 
 pub loop-row-preserved : goal.loop-row-preserved
 loop-row-preserved c =

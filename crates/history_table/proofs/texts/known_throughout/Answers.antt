@@ -1,4 +1,4 @@
-use Rattle.std.proofs.Common.{◌≡◌, ◌+◌, ◌∷◌, [], ◌++◌, map, Some, take, length, sym, ap, ◌∙◌, get_or, slice_index_or}
+use Rattle.std.proofs.Common.{◌∷◌, [], ◌++◌, map, Some, take, sym, ap, ◌∙◌, get_or}
 use Rattle.std.proofs.lemmas.List.{map-append, take_more, take_all}
 use Rattle.history_table.proofs.texts.known_throughout.Goals as goal
 

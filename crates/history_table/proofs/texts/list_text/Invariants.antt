@@ -1,4 +1,4 @@
-use Rattle.std.proofs.Common.{◌≡◌, ◌+◌, ◌++◌, drop, string_bytes, flat_map}
+use Rattle.std.proofs.Common.{◌≡◌, ◌++◌, drop, string_bytes, flat_map}
 use Rattle.std.specs.List.{enumerate_from}
 use Rattle.trio_types.specs.Verdict.{world_of}
 use Rattle.history_table.specs.Texts.{numbered_text, list_text}
