@@ -6,5 +6,6 @@ mod Arguments
 mod RowNumbers
 mod Fits
 pub mod Answered
+mod PrintedLines
 mod PrintedValues
 mod Whole

@@ -5,3 +5,4 @@ pub mod History
 pub mod Decoding
 pub mod Fitting
 pub mod Printed
+pub mod Texts

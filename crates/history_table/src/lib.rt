@@ -11,6 +11,7 @@ mod reader;
 mod reading;
 mod rows;
 mod table;
+mod texts;
 
 pub use fault::HistFault;
 pub use given::Given;
@@ -18,4 +19,5 @@ pub use laws::text_has_one_history;
 pub use line::{Line, Lines, Value, Values};
 pub use printing::row_name;
 pub use reader::read_history;
-pub use table::Table;
+pub use table::{Table, Tables};
+pub use texts::{given_text, list_text, table_text};

@@ -26,7 +26,12 @@ pub fn row_name(alloc: Global, spec: &Spec, row: u32) -> Result<Name, AllocError
 }
 
 /// Appends the name of a row.
-fn add_name(alloc: Global, text: &mut String, spec: &Spec, row: &RowParts) -> Result<(), AllocError>
+pub fn add_name(
+    alloc: Global,
+    text: &mut String,
+    spec: &Spec,
+    row: &RowParts,
+) -> Result<(), AllocError>
     ensures { OnOk result (string_bytes text.new ≡ string_bytes text.old ++ row_name (world_of spec.now) (row_of row.now)) }
 {
     let Some(item) = spec.items.as_slice().get(row.item as usize) else {
@@ -64,7 +69,7 @@ fn add_values(
 }
 
 /// Appends a value by its index in the domain of this number.
-fn add_value(
+pub fn add_value(
     alloc: Global,
     text: &mut String,
     spec: &Spec,

@@ -112,7 +112,7 @@ pub fn all_rows(alloc: Global, spec: &Spec) -> Result<List<RowParts>, AllocError
 }
 
 /// How many rows there are.
-fn row_count(spec: &Spec) -> u32
+pub fn row_count(spec: &Spec) -> u32
     ensures { result ≡ length (rows_of (world_of spec.now)) }
 {
     cell_count(spec) / spec.instants

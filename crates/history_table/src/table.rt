@@ -75,3 +75,6 @@ impl Table {
         self.indexes.as_slice()
     }
 }
+
+/// Tables in an order.
+pub type Tables = List<Table>;
