@@ -11,6 +11,7 @@ ghost use Rattle.trio_main.specs.Due.{Due};
 
 mod history_rows;
 mod made_texts;
+mod operator_rows;
 mod spec_rows;
 
 use super::*;
