@@ -26,7 +26,7 @@ fn texts_that_stop_early(rt: HostRuntime) -> Result<(), Fail> {
         check_kept(&rt, text.as_str(), kept)?;
         text.push_str(token)?;
         text.push_str(" ")?;
-        kept += 1;
+        kept = kept.saturating_add(1);
     }
     check_kept(&rt, text.as_str(), kept)
 }
