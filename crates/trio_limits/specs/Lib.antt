@@ -1,2 +1,5 @@
+pub mod Given
 pub mod Draft
+pub mod Ground
+pub mod Counting
 pub mod Limits
