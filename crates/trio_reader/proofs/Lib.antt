@@ -1,3 +1,5 @@
 pub mod Erased
 pub mod KindLemmas
 pub mod RangeLemmas
+pub mod FormedPhases
+pub mod FormedDomains
