@@ -3,3 +3,5 @@ pub mod KindLemmas
 pub mod RangeLemmas
 pub mod FormedPhases
 pub mod FormedDomains
+pub mod FormedCases
+pub mod FormedClaims
