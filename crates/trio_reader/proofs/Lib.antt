@@ -5,3 +5,4 @@ pub mod FormedPhases
 pub mod FormedDomains
 pub mod FormedCases
 pub mod FormedClaims
+pub mod FormedNumbers
