@@ -6,3 +6,4 @@ pub mod FormedDomains
 pub mod FormedCases
 pub mod FormedClaims
 pub mod FormedNumbers
+pub mod FormedShape
