@@ -7,3 +7,5 @@ pub mod FormedCases
 pub mod FormedClaims
 pub mod FormedNumbers
 pub mod FormedShape
+pub mod FormedNames
+pub mod FormedVariables
