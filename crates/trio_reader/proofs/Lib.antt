@@ -1,3 +1,4 @@
 pub mod Erased
 pub mod KindLemmas
 pub mod RangeLemmas
+pub mod FormedTerms
