@@ -10,7 +10,7 @@ use Rattle.trio_types.specs.declared.spec.Item.{Item}
 use Rattle.trio_types.specs.declared.formula.Term.{Term}
 use Rattle.trio_types.specs.declared.formula.Term.TheVariants as term
 use Rattle.trio_types.specs.declared.formula.SignedTerm.{SignedTerm, out-SignedTerm, out-roll-SignedTerm}
-use Rattle.trio_types.specs.Kinds.{Kind, Use, Gathered, gathered, kind_in, kind_of_constant, term_uses, is_right, in_role, named, part, argument, of_item, argument_uses}
+use Rattle.trio_types.specs.Kinds.{Use, Gathered, gathered, kind_in, term_uses, is_right, in_role, named, part, argument, of_item, argument_uses}
 use Rattle.trio_types.specs.Kinds.{args_of as arguments_of}
 use Rattle.trio_types.proofs.Lists.{all_left, all_right, map-map, map_same}
 use Rattle.trio_types.proofs.KindsAt.{gathered-Number, gathered-Value, gathered-Read, gathered-Sum, gathered-Times}
@@ -30,10 +30,11 @@ use Rattle.trio_scope.specs.Places.{earlier, least, unless}
 use Rattle.trio_scope.specs.Gather.{Variable, places_in_term, places_in_shape, places_in_arguments, places_in_sum}
 use Rattle.trio_scope.proofs.Gathers.{in-term, in-Call, in-Sum, in-Times}
 use Rattle.trio_reader.specs.Erasure.{domains_of, world_of_tree, shape_of, term_of, part_from, sense_of, sense_term, sense_item, item_count}
-use Rattle.trio_reader.specs.Kinds.{Placed, placed, wrong_places, kind_of, role_uses, name_uses, args_of, argument_use, item_use, read_uses, shape_uses, own_uses, kind_finding}
+use Rattle.trio_reader.specs.Kinds.{Placed, placed, wrong_places, kind_of, role_uses, args_of, argument_use, item_use, shape_uses, own_uses, kind_finding}
 use Rattle.trio_reader.proofs.Erased.{term-shape, shape-Number, shape-Truth, shape-Named, shape-Call, shape-Sum, shape-Times}
 use Rattle.trio_reader.proofs.KindLemmas.{truth-constant}
 
+-- lists without an element
 pub append_empty : {X : Type 0} (xs ys : List X) → xs ++ ys ≡ [] → (xs ≡ []) × (ys ≡ [])
 append_empty [] ys is = (refl, is)
 append_empty (x ∷ xs) ys is = cc
@@ -50,9 +51,11 @@ pub least_none : (ps : List ℕ) → least ps ≡ None → ps ≡ []
 least_none [] is = refl
 least_none (p ∷ ps) is = absurd (some_least p (least ps) is)
 
+-- all pass in a list and in the one behind it
 pub all_both : {X : Type 0} (p : X → Bool) (xs ys : List X) → list_all p xs ≡ true → list_all p ys ≡ true → list_all p (xs ++ ys) ≡ true
 all_both p xs ys first second = list_all-append p xs ys ∙ and_from (list_all p xs) (list_all p ys) first second
 
+-- where no place is wrong, each use is right
 abbrev pub placed_right : Placed → Bool
 placed_right u = is_right u.use_
 
@@ -87,6 +90,7 @@ module _ (tree : SpecTree) (t : TermTree) (e : List Variable) (r : Role) (inside
 abbrev uses_right : SpecTree → List Variable → Bool → Term → Bool
 uses_right tree e inside x = list_all is_right (term_uses (world_of_tree tree) (domains_of tree e) inside x)
 
+-- where no place in a term is wrong, all that it uses is right
 TermFine : SpecTree → TermTree → Type 0
 TermFine tree t = (e : List Variable) (r : Role) (inside : Bool) → places_in_term (kind_finding tree) t e r inside ≡ [] → uses_right tree e inside (term_of tree t e) ≡ true
 
@@ -98,6 +102,7 @@ ShapeFine tree s =
     (e : List Variable) (inside : Bool) → list_all placed_right (shape_uses tree e inside (out-TermShape s)) ≡ true →
     places_in_shape (kind_finding tree) s e inside ≡ [] → uses_right tree e inside (shape_of tree s e) ≡ true
 
+-- a part of a term, and that it is so
 abbrev SomeShape : SpecTree → Type 0
 SomeShape tree = Such the_family (claims (ShapeFine tree) (PartFine tree) (TermFine tree)) member-TermShape
 
@@ -132,6 +137,7 @@ fine_name tree m e inside own clean =
     ∙ sym (list_all-map placed_right (placed m.place) (term_uses (world_of_tree tree) (domains_of tree e) inside (sense_term (sense_of tree e m.name))))
     ∙ sym (ap (λ s. list_all placed_right (shape_uses tree e inside s)) (shape.outs-Named m)) ∙ own
 
+-- the arguments of an item, by the text and by its parts
 same_arguments : (o : Option Item) → args_of o ≡ arguments_of o
 same_arguments None = refl
 same_arguments (Some item) = refl
@@ -198,7 +204,7 @@ fine_call tree m xs e inside own clean =
     let gs : List Gathered = map (gathered (world_of_tree tree) (domains_of tree e)) terms in
     let same : gs ≡ map (gathered_of tree e) args = map-map (gathered (world_of_tree tree) (domains_of tree e)) (λ t. term_of tree t e) args in
     let read = and_parts (is_right (item_use tree inside n (length args))) (list_all placed_right (map (argument_use tree e) (zip (args_of o) args)))
-        (sym (ap (λ s. list_all placed_right (shape_uses tree e inside s)) (shape.outs-Call m args)) ∙ own) in
+    (sym (ap (λ s. list_all placed_right (shape_uses tree e inside s)) (shape.outs-Call m args)) ∙ own) in
     ap (uses_right tree e inside) (shape-Call tree e m args)
     ∙ ap (λ (g : Gathered). list_all is_right (g.uses inside)) (gathered-Read (world_of_tree tree) (domains_of tree e) n terms)
     ∙ ap (λ hs. list_all is_right (of_item inside (option_map (λ (item : Item). length item.args) o) (length hs)
@@ -234,6 +240,7 @@ fine_times tree n t fine e inside own clean =
     ∙ and_from (is_right (in_role part (kind_of tree e t))) (uses_right tree e inside (term_of tree t e))
     (one_right (out-TermTree t).place (in_role part (kind_of tree e t)) (role_right tree t e role.Factor inside found)) (fine e role.Factor inside found)
 
+-- by induction over terms, their shapes and the parts of sums
 all_terms : (tree : SpecTree) (t : TermTree) → TermFine tree t
 unfolding PartFine
 all_terms tree =
