@@ -1,8 +1,7 @@
 -- The kinds of a sound tree's parts are right.
-use Rattle.std.proofs.Common.{◌≡◌, ℕ, Bool, true, false, if◌then◌else◌, List, [], ◌∷◌, ◌++◌, Option, None, Some, map, filter, refl, sym, ap, subst, ◌∙◌}
+use Rattle.std.proofs.Common.{◌≡◌, ℕ, Bool, true, false, if◌then◌else◌, List, [], ◌∷◌, ◌++◌, map, filter, refl, sym, ap, subst, ◌∙◌}
 use denote.Hole.Holds.{Such}
 use Rattle.std.specs.List.{flat_map, list_all}
-use Rattle.std.specs.Option.{option_map}
 use Rattle.std.proofs.lemmas.Bool.{and_from}
 use Rattle.std.proofs.lemmas.Grind.{flat_map-append}
 use Rattle.std.proofs.lemmas.List.{map-append}
@@ -33,21 +32,16 @@ use Rattle.trio_syntax.specs.declared.tree.DeclarationTree.TheVariants as statem
 use Rattle.trio_syntax.specs.declared.tree.ClaimTree.{ClaimTree}
 use Rattle.trio_syntax.specs.declared.tree.SpecTree.{SpecTree}
 use Rattle.trio_scope.specs.declared.walk.Role.TheVariants as role
-use Rattle.trio_scope.specs.Places.{least}
-use Rattle.trio_scope.specs.Scope.{refs_of, unknown_places, repeated_places}
+use Rattle.trio_scope.specs.Scope.{refs_of}
 use Rattle.trio_scope.specs.Names.{items_in}
 use Rattle.trio_scope.specs.Gather.{Variable, places_in, places_in_term, places_in_claims}
 use Rattle.trio_scope.proofs.Gathers.{in-Lone, in-Compare, in-Not, in-And, in-Or, in-Implies, in-Iff, in-Quantified, in-One, in-Far, in-Pair}
-use Rattle.trio_limits.specs.Limits.{count_fault}
-use Rattle.trio_reader.specs.declared.fault.SpecFault.{SpecFault}
-use Rattle.trio_reader.specs.declared.fault.SpecFault.TheVariants as fault
 use Rattle.trio_reader.specs.Erasure.{domain_of, domains_of, world_of_tree, parts_of_tree, term_of, formula_of, quantified, item_from, axiom_from, is_wanted, claims_from}
 use Rattle.trio_reader.specs.Kinds.{placed, wrong_places, kind_of, ref_uses, kind_finding, kind_places}
-use Rattle.trio_reader.specs.Ranges.{out_of_range}
-use Rattle.trio_reader.specs.Reading.{or_later}
 use Rattle.trio_reader.specs.Sound.{IsSound}
 use Rattle.trio_reader.proofs.Erased.{formula-Lone, formula-Compare, formula-Not, formula-And, formula-Or, formula-Implies, formula-Iff, formula-Quantified, formula-One, formula-Far, formula-Pair}
-use Rattle.trio_reader.proofs.FormedTerms.{append_empty, least_none, all_both, no_wrong, one_right, role_right, term_right}
+use Rattle.trio_reader.proofs.FormedPhases.{append_empty, least_none, clean}
+use Rattle.trio_reader.proofs.FormedTerms.{all_both, no_wrong, one_right, role_right, term_right}
 
 -- what names a domain that has a kind, or `bool`
 bool_right : (tree : SpecTree) → is_right (of_domain (kind_in (world_of_tree tree) 0)) ≡ true
@@ -273,26 +267,6 @@ kinds_without_fault tree clean =
     ∙ all_both is_right (flat_map (claim_uses tree) axioms) (flat_map (claim_uses tree) goals)
     (claims_right tree false tree.claims both.1) (claims_right tree true tree.claims both.1))
 
--- what it means that a tree has no fault
-pub none_mapped : {X Y : Type 0} (f : X → Y) (o : Option X) → option_map f o ≡ None → o ≡ None
-none_mapped f None is = refl
-none_mapped f (Some x) is = cc
-
-pub no_earlier : (first later : Option SpecFault) → or_later first later ≡ None → (first ≡ None) × (later ≡ None)
-no_earlier None later is = (refl, is)
-no_earlier (Some f) later is = cc
-
--- a sound tree has no place of a wrong kind
-pub no_kind_places : (tree : SpecTree) → IsSound tree → kind_places tree ≡ []
-no_kind_places tree is =
-    let range : Option SpecFault = or_later (option_map fault.Range (least (out_of_range tree))) (option_map (λ c. fault.Limit c.0 c.1) (count_fault (parts_of_tree tree))) in
-    let kinds : Option SpecFault = or_later (option_map fault.Kind (least (kind_places tree))) range in
-    let twice : Option SpecFault = or_later (option_map fault.Twice (least (repeated_places tree))) kinds in
-    let second = no_earlier (option_map fault.Unknown (least (unknown_places tree))) twice is.sound in
-    let third = no_earlier (option_map fault.Twice (least (repeated_places tree))) kinds second.1 in
-    let fourth = no_earlier (option_map fault.Kind (least (kind_places tree))) range third.1 in
-    least_none (kind_places tree) (none_mapped fault.Kind (least (kind_places tree)) fourth.0)
-
 -- the kinds of a sound tree's parts are right
 pub kinds_formed : (tree : SpecTree) → IsSound tree → kinds_are_right (parts_of_tree tree) ≡ true
-kinds_formed tree is = kinds_without_fault tree (no_kind_places tree is)
+kinds_formed tree is = kinds_without_fault tree (least_none (kind_places tree) (clean tree is.sound).kinds)

@@ -1,5 +1,5 @@
 -- A term of a tree at which no kind is at fault uses nothing that is not right.
-use Rattle.std.proofs.Common.{◌≡◌, ℕ, Bool, true, false, if◌then◌else◌, List, [], ◌∷◌, ◌++◌, Option, None, Some, length, map, slice_get, refl, sym, ap, subst, ◌∙◌}
+use Rattle.std.proofs.Common.{◌≡◌, ℕ, Bool, true, if◌then◌else◌, List, [], ◌∷◌, ◌++◌, Option, None, Some, length, map, slice_get, refl, sym, ap, subst, ◌∙◌}
 use denote.Hole.Holds.{Such}
 use Rattle.std.specs.List.{flat_map, list_all, zip}
 use Rattle.std.specs.Option.{option_map}
@@ -26,30 +26,14 @@ use Rattle.trio_syntax.specs.declared.tree.PartTree.{PartTree, PartTree-F, out-P
 use Rattle.trio_syntax.specs.declared.tree.SpecTree.{SpecTree}
 use Rattle.trio_scope.specs.declared.walk.Role.{Role}
 use Rattle.trio_scope.specs.declared.walk.Role.TheVariants as role
-use Rattle.trio_scope.specs.Places.{earlier, least, unless}
+use Rattle.trio_scope.specs.Places.{unless}
 use Rattle.trio_scope.specs.Gather.{Variable, places_in_term, places_in_shape, places_in_arguments, places_in_sum}
 use Rattle.trio_scope.proofs.Gathers.{in-term, in-Call, in-Sum, in-Times}
 use Rattle.trio_reader.specs.Erasure.{domains_of, world_of_tree, shape_of, term_of, part_from, sense_of, sense_term, sense_item, item_count}
 use Rattle.trio_reader.specs.Kinds.{Placed, placed, wrong_places, kind_of, role_uses, args_of, argument_use, item_use, shape_uses, own_uses, kind_finding}
 use Rattle.trio_reader.proofs.Erased.{term-shape, shape-Number, shape-Truth, shape-Named, shape-Call, shape-Sum, shape-Times}
 use Rattle.trio_reader.proofs.KindLemmas.{truth-constant}
-
--- lists without an element
-pub append_empty : {X : Type 0} (xs ys : List X) → xs ++ ys ≡ [] → (xs ≡ []) × (ys ≡ [])
-append_empty [] ys is = (refl, is)
-append_empty (x ∷ xs) ys is = cc
-
-unless_empty : (b : Bool) (p : ℕ) → unless b p ≡ [] → b ≡ true
-unless_empty true p is = refl
-unless_empty false p is = cc
-
-some_least : (p : ℕ) (r : Option ℕ) → earlier (Some p) r ≡ None → ⊥
-some_least p None is = cc
-some_least p (Some q) is = cc
-
-pub least_none : (ps : List ℕ) → least ps ≡ None → ps ≡ []
-least_none [] is = refl
-least_none (p ∷ ps) is = absurd (some_least p (least ps) is)
+use Rattle.trio_reader.proofs.FormedPhases.{append_empty, unless_empty}
 
 -- all pass in a list and in the one behind it
 pub all_both : {X : Type 0} (p : X → Bool) (xs ys : List X) → list_all p xs ≡ true → list_all p ys ≡ true → list_all p (xs ++ ys) ≡ true
