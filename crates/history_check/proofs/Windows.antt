@@ -1,16 +1,14 @@
 -- The instants that windows select.
-use Rattle.std.proofs.Common.{◌≡◌, ℕ, zero, suc, ◌+◌, ◌-◌, ◌<◌, ◌≤◌, ℤ, pos, negsuc, neg_ℤ, nat_abs, ◌+ℤ◌, ◌-ℤ◌, ◌<ℤ◌, ◌≤ℤ◌, Bool, true, false, ◌&&◌, nat_lt, nat_le, Option, None, Some, refl, sym, ap, ◌∙◌, arith, Decides}
+use Rattle.std.proofs.Common.{◌≡◌, ℕ, zero, suc, ◌<◌, ◌≤◌, ℤ, pos, negsuc, neg_ℤ, nat_abs, ◌+ℤ◌, ◌-ℤ◌, ◌<ℤ◌, ◌≤ℤ◌, Bool, true, false, ◌&&◌, nat_lt, nat_le, Some, refl, sym, ap, ◌∙◌, arith, Decides}
 use Rattle.std.specs.Prelude.{int_lt, int_le}
-use Rattle.std.specs.List.{list_any, filter, range_with_len}
-use Rattle.std.specs.Option.{option_map}
 use Rattle.std.specs.Ordering.{int_eq}
 use Rattle.std.proofs.lemmas.Bool.{false≢true, and_parts, and_from, false_from_ne_true, leb-true, ltb-true, lt-ltb, le-leb}
-use Rattle.std.proofs.lemmas.Bool.Decides.{Decides-int_eq, Decides-ltb}
+use Rattle.std.proofs.lemmas.Bool.Decides.{Decides-int_eq}
 use Rattle.std.specs.Int.{int_max, int_min}
 use Rattle.std.proofs.lemmas.Int.{ints, clamps}
 use Rattle.trio_base.specs.declared.operators.Ends.{Ends}
 use Rattle.trio_base.specs.declared.operators.Ends.TheVariants as ends
-use Rattle.trio_types.specs.Truth.{is_at_distance, is_not_negative, is_ahead, is_behind}
+use Rattle.trio_types.specs.Truth.{is_at_distance, is_ahead, is_behind}
 use Rattle.trio_types.specs.Laws.{Ahead, Behind}
 use Rattle.trio_types.proofs.Integers.{Decides-int_le, Decides-int_lt}
 use Rattle.trio_types.proofs.Operators.{Tells, tells_ahead, tells_behind}
@@ -33,7 +31,7 @@ decides_between low high j = (
   λ h. and_from (int_le low (pos j)) (int_lt (pos j) high) ((Decides-int_le low (pos j)).1 h.0) ((Decides-int_lt (pos j) high).1 h.1),
 )
 
-decides_window : (from to j : ℕ) → Decides (nat_le from j && nat_lt j to) ((from ≤ j) × (j < to))
+pub decides_window : (from to j : ℕ) → Decides (nat_le from j && nat_lt j to) ((from ≤ j) × (j < to))
 decides_window from to j = (
   λ h. let r = and_parts (nat_le from j) (nat_lt j to) h in (leb-true from j r.0, ltb-true j to r.1),
   λ h. and_from (nat_le from j) (nat_lt j to) (le-leb from j h.0) (lt-ltb j to h.1),

@@ -1,5 +1,5 @@
 -- When a term or formula may be checked under values of its variables, and which instants a window selects.
-use Rattle.std.specs.Prelude.{◌≡◌, ℕ, ◌+◌, ◌-◌, ◌<◌, ◌≤◌, ℤ, pos, neg_ℤ, ◌≤ℤ◌, nat_abs, Bool, true, false, ◌&&◌, nat_lt, nat_le, List, [], ◌∷◌, ◌++◌, Option, None, Some, map, length, slice_get}
+use Rattle.std.specs.Prelude.{◌≡◌, ℕ, ◌+◌, ◌-◌, ◌<◌, ◌≤◌, ℤ, nat_abs, Bool, true, false, ◌&&◌, nat_lt, nat_le, List, [], ◌∷◌, ◌++◌, Option, None, Some, length, slice_get, MatchOption}
 use Rattle.std.specs.List.{list_all, list_any, range_with_len}
 use Rattle.trio_base.specs.declared.limits.TheConstants.{GREATEST_BOUND, MOST_OPEN}
 use Rattle.trio_base.specs.declared.operators.OneOp.{OneOp}
@@ -67,3 +67,22 @@ pub record Selects (instants from to : ℕ) (test : ℕ → Bool) : Type 0 where
 abbrev pub IsWindowOf : World → OneOp → ℕ → ℕ → ℕ → Bool → Type 0
 IsWindowOf world operator i from to some =
     (f : ℕ → Bool) → one_truth world operator f i ≡ is_iff some (list_any (λ j. is_iff some (f j)) (range_with_len from (to - from)))
+
+-- the first of these instants at which something is true, if there is one
+pub record First (f : ℕ → Bool) (from to j : ℕ) : Type 0 where
+  pub from_on : from ≤ j
+  pub before : j < to
+  pub true_there : f j ≡ true
+  pub none_earlier : (k : ℕ) → from ≤ k → k < j → f k ≡ false
+
+abbrev pub IsFirst : (ℕ → Bool) → ℕ → ℕ → Option ℕ → Type 0
+IsFirst f from to result = MatchOption result ((k : ℕ) → from ≤ k → k < to → f k ≡ false) (First f from to)
+
+-- the last instant before another at which something is true, if there is one
+pub record Last (f : ℕ → Bool) (to j : ℕ) : Type 0 where
+  pub before : j < to
+  pub true_there : f j ≡ true
+  pub none_later : (k : ℕ) → j < k → k < to → f k ≡ false
+
+abbrev pub IsLast : (ℕ → Bool) → ℕ → Option ℕ → Type 0
+IsLast f to result = MatchOption result ((k : ℕ) → k < to → f k ≡ false) (Last f to)

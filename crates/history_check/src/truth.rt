@@ -7,11 +7,11 @@ ghost use Rattle.trio_types.specs.World.{values_in};
 ghost use Rattle.trio_types.specs.Cells.{IsTable};
 ghost use Rattle.trio_types.specs.Truth.{truth, is_value, relates, is_iff, far_truth};
 ghost use Rattle.trio_types.specs.Verdict.{world_of};
-ghost use Rattle.history_check.specs.Fits.{FormulaFits, AllFit, QuantifierFits, IsNear, IsWindowOf};
+ghost use Rattle.history_check.specs.Fits.{FormulaFits, AllFit, QuantifierFits, IsNear, IsWindowOf, IsFirst, IsLast};
 
 use crate::checker::Table;
 use crate::terms::value_of;
-use crate::window::{Window, ahead, at_distance, behind, in_future, in_past};
+use crate::window::{Window, ahead, at_distance, behind, between, in_future, in_past};
 use trio_base::limits::MOST_OPEN;
 use trio_types::{Ends, FarOp, Formula, OneOp, PairOp, Rel, Spec, size_of, value_at};
 
@@ -46,7 +46,7 @@ pub(crate) fn holds(
         Formula::Iff(left, right) => {
             let left = holds(spec, table, left.get(), values, instant);
             let right = holds(spec, table, right.get(), values, instant);
-            left == right
+            agrees(left, right)
         }
         Formula::All(_, domain, part) => !for_some(
             spec,
@@ -68,7 +68,10 @@ pub(crate) fn holds(
         ),
         Formula::One(operator, part) => {
             let (window, some) = window_of(spec, *operator, instant);
-            somewhere(spec, table, part.get(), values, window, some) == some
+            agrees(
+                some,
+                somewhere(spec, table, part.get(), values, window, some),
+            )
         }
         Formula::Far(operator, part, distance) => {
             let distance = value_of(spec, table, distance, values, instant);
@@ -82,22 +85,38 @@ pub(crate) fn holds(
                 distance,
             )
         }
-        Formula::Pair(PairOp::Until, left, right) => until(
-            spec,
-            table,
-            left.get(),
-            right.get(),
-            values,
-            instant,
-        ),
-        Formula::Pair(PairOp::Since, left, right) => since(
-            spec,
-            table,
-            left.get(),
-            right.get(),
-            values,
-            instant,
-        ),
+        Formula::Pair(operator, left, right) => match operator {
+            PairOp::Until => {
+                match first_true(
+                    spec,
+                    table,
+                    right.get(),
+                    values,
+                    between(instant, spec.instants),
+                ) {
+                    Some(later) => !somewhere(
+                        spec,
+                        table,
+                        left.get(),
+                        values,
+                        between(instant, later),
+                        false,
+                    ),
+                    None => false,
+                }
+            }
+            PairOp::Since => match last_true(spec, table, right.get(), values, instant) {
+                Some(earlier) => !somewhere(
+                    spec,
+                    table,
+                    left.get(),
+                    values,
+                    between(earlier, instant),
+                    false,
+                ),
+                None => false,
+            },
+        },
     }
 }
 
@@ -155,7 +174,10 @@ fn for_some(
     inner[..level].copy_from_slice(values);
     for index in 0..size_of(spec, domain) {
         inner[level] = value_at(spec, domain, index);
-        if holds(spec, table, part, &inner[..level + 1], instant) == wanted {
+        if agrees(
+            wanted,
+            holds(spec, table, part, &inner[..level + 1], instant),
+        ) {
             return true;
         }
     }
@@ -178,7 +200,7 @@ fn somewhere(
     ensures { result ≡ list_any (λ j. is_iff wanted (truth (world_of spec.now) part.now values.now table.now j)) (range_with_len window.from (window.to - window.from)) }
 {
     for instant in window.from..window.to {
-        if holds(spec, table, part, values, instant) == wanted {
+        if agrees(wanted, holds(spec, table, part, values, instant)) {
             return true;
         }
     }
@@ -297,58 +319,42 @@ fn far_holds(
     }
 }
 
-/// Whether the right formula is true at an instant later on, and the left one at each between.
+/// The first instant of a window at which a formula is true.
 #[cycle(truth)]
-fn until(
+fn first_true(
     spec: &Spec,
     table: &Table,
-    left: &Formula,
-    right: &Formula,
+    part: &Formula,
     values: &[i64],
-    instant: u32,
-) -> bool
+    window: Window,
+) -> Option<u32>
     requires table_fits { IsTable (world_of spec.now) table.now }
-    requires left_fits { FormulaFits (world_of spec.now) left.now values.now }
-    requires right_fits { FormulaFits (world_of spec.now) right.now values.now }
-    requires instant_in { instant < spec.now.instants }
-    ensures { result ≡ truth (world_of spec.now) (formula_of.Pair pair.Until left.now right.now) values.now table.now instant }
+    requires part_fits { FormulaFits (world_of spec.now) part.now values.now }
+    requires inside { window.to ≤ spec.now.instants }
+    ensures { IsFirst (truth (world_of spec.now) part.now values.now table.now) window.from window.to result }
 {
-    for later in instant + 1..spec.instants {
-        if holds(spec, table, right, values, later) {
-            return true;
-        }
-        if !holds(spec, table, left, values, later) {
-            return false;
+    for instant in window.from..window.to {
+        if holds(spec, table, part, values, instant) {
+            return Some(instant);
         }
     }
-    false
+    None
 }
 
-/// Whether the right formula is true at an earlier instant, and the left one at each between.
+/// The last instant before another at which a formula is true.
 #[cycle(truth)]
-fn since(
-    spec: &Spec,
-    table: &Table,
-    left: &Formula,
-    right: &Formula,
-    values: &[i64],
-    instant: u32,
-) -> bool
+fn last_true(spec: &Spec, table: &Table, part: &Formula, values: &[i64], before: u32) -> Option<u32>
     requires table_fits { IsTable (world_of spec.now) table.now }
-    requires left_fits { FormulaFits (world_of spec.now) left.now values.now }
-    requires right_fits { FormulaFits (world_of spec.now) right.now values.now }
-    requires instant_in { instant < spec.now.instants }
-    ensures { result ≡ truth (world_of spec.now) (formula_of.Pair pair.Since left.now right.now) values.now table.now instant }
+    requires part_fits { FormulaFits (world_of spec.now) part.now values.now }
+    requires inside { before ≤ spec.now.instants }
+    ensures { IsLast (truth (world_of spec.now) part.now values.now table.now) before result }
 {
-    for earlier in (0..instant).rev() {
-        if holds(spec, table, right, values, earlier) {
-            return true;
-        }
-        if !holds(spec, table, left, values, earlier) {
-            return false;
+    for instant in (0..before).rev() {
+        if holds(spec, table, part, values, instant) {
+            return Some(instant);
         }
     }
-    false
+    None
 }
 
 /// The instants that an operator on one formula speaks of, and whether it speaks of some of them or of each.
@@ -377,6 +383,13 @@ fn window_of(spec: &Spec, operator: OneOp, instant: u32) -> (Window, bool)
         OneOp::AlwP => (before, false),
         OneOp::SomP => (before, true),
     }
+}
+
+/// Whether both are true or both are false.
+fn agrees(wanted: bool, found: bool) -> bool
+    ensures { result ≡ is_iff wanted found }
+{
+    wanted == found
 }
 
 /// Whether a value is there and is 1.

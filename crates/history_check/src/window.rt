@@ -1,5 +1,5 @@
 //! The instants inside time that an operator speaks of: neighboring ones, from the first up to the last.
-ghost use Rattle.std.specs.Prelude.{◌&&◌, pos, neg_ℤ, int_le, int_lt, option_map};
+ghost use Rattle.std.specs.Prelude.{◌≡◌, ◌<◌, ◌+◌, ◌-◌, ◌^◌, ◌&&◌, pos, neg_ℤ, int_le, int_lt, option_map};
 ghost use Rattle.trio_types.specs.Truth.{is_at_distance, is_not_negative, is_ahead, is_behind};
 ghost use Rattle.history_check.specs.Fits.{Selects, IsNear};
 
@@ -23,6 +23,18 @@ fn inside(instants: u32, from: i64, to: i64) -> Window
     Window {
         from: from.clamp(0, last) as u32,
         to: to.clamp(0, last) as u32,
+    }
+}
+
+/// The instants after one and before another.
+pub(crate) fn between(first: u32, last: u32) -> Window
+    requires { first < 2 ^ 32 - 1 }
+    ensures from { result.from ≡ first + 1 }
+    ensures to { result.to ≡ last }
+{
+    Window {
+        from: first + 1,
+        to: last,
     }
 }
 

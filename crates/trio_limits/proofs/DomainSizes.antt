@@ -1,5 +1,5 @@
 -- How many values a domain has, and the greatest of them.
-use Rattle.std.proofs.Common.{◌≡◌, ℕ, zero, suc, ℤ, pos, negsuc, neg_ℤ, int_le, ◌&&◌, ◌+ℤ◌, ◌-ℤ◌, ◌+◌, ◌-◌, ◌<◌, ◌≤◌, ◌≤ℤ◌, max, nat_abs, T, Fits, w64, rules, true, List, [], ◌∷◌, map, length, refl, sym, ap, ◌∙◌, arith}
+use Rattle.std.proofs.Common.{◌≡◌, ℕ, zero, suc, ℤ, pos, negsuc, neg_ℤ, int_le, ◌&&◌, ◌+ℤ◌, ◌-ℤ◌, ◌+◌, ◌-◌, ◌≤◌, ◌≤ℤ◌, max, nat_abs, T, Fits, w64, rules, true, map, length, refl, sym, ap, ◌∙◌, arith}
 use Rattle.std.specs.List.{range_with_len}
 use Rattle.std.proofs.lemmas.Bool.{and_parts, ltb-true, leb-true}
 use Rattle.std.proofs.lemmas.Int.{ints}
@@ -64,9 +64,9 @@ ends low a zero =
 ends low a (suc n) =
     let same : (a + 1) + n ≡ a + suc n = omega arith in
     let rest : greatest (map (λ k. nat_abs (low +ℤ pos k)) (range_with_len (a + 1) (suc n))) ≡ max (nat_abs (low +ℤ pos (a + 1))) (nat_abs (low +ℤ pos (a + suc n))) =
-        ends low (a + 1) n ∙ ap (λ m. max (nat_abs (low +ℤ pos (a + 1))) (nat_abs (low +ℤ pos m))) same in
+    ends low (a + 1) n ∙ ap (λ m. max (nat_abs (low +ℤ pos (a + 1))) (nat_abs (low +ℤ pos m))) same in
     let middle : nat_abs (low +ℤ pos (a + 1)) ≤ max (nat_abs (low +ℤ pos a)) (nat_abs (low +ℤ pos (a + suc n))) =
-        between (low +ℤ pos a) (low +ℤ pos (a + 1)) (low +ℤ pos (a + suc n)) (omega (arith, ints)) (omega (arith, ints)) in
+    between (low +ℤ pos a) (low +ℤ pos (a + 1)) (low +ℤ pos (a + suc n)) (omega (arith, ints)) (omega (arith, ints)) in
     ap (max (nat_abs (low +ℤ pos a))) rest ∙ omega (arith, middle)
 
 pub greatest_in_row : (low : ℤ) (n : ℕ) → greatest (map nat_abs (integers low (suc n))) ≡ max (nat_abs low) (nat_abs (low +ℤ pos n))

@@ -1,5 +1,5 @@
 -- The counts of each form of a formula, from those of its parts.
-use Rattle.std.proofs.Common.{◌≡◌, ℕ, ◌+◌, ◌-◌, ◌*◌, ◌<◌, min, max, sum, List, [], ◌∷◌, ◌++◌, map, take, length, get_or, refl, sym, ap, ◌∙◌, arith}
+use Rattle.std.proofs.Common.{◌≡◌, ℕ, ◌+◌, ◌-◌, ◌*◌, ◌<◌, max, sum, List, [], ◌∷◌, ◌++◌, map, take, length, get_or, refl, ap, ◌∙◌, arith}
 use Rattle.trio_base.specs.declared.operators.Rel.{Rel}
 use Rattle.trio_base.specs.declared.operators.OneOp.{OneOp}
 use Rattle.trio_base.specs.declared.operators.FarOp.{FarOp}
@@ -11,7 +11,7 @@ use Rattle.trio_types.specs.declared.formula.Formula.TheVariants as formula
 use Rattle.trio_types.specs.World.{World, size_of}
 use Rattle.trio_types.specs.Bounds.{greatest, bound_of, greatest_bound}
 use Rattle.trio_types.specs.Instances.{instances, far_instances}
-use Rattle.trio_types.specs.Nest.{FormulaNest, nest_of_term, nest_of, its_own_group, bracketed_group}
+use Rattle.trio_types.specs.Nest.{nest_of_term, nest_of, its_own_group, bracketed_group}
 use Rattle.trio_types.proofs.BoundsAt.{greatest_bound-Lone, greatest_bound-Compare, greatest_bound-Not, greatest_bound-And, greatest_bound-Or, greatest_bound-Implies, greatest_bound-Iff, greatest_bound-All, greatest_bound-Ex, greatest_bound-One, greatest_bound-Far, greatest_bound-Pair}
 use Rattle.trio_types.proofs.CountsAt.{instances-Lone, instances-Compare, instances-Not, instances-And, instances-Or, instances-Implies, instances-Iff, instances-All, instances-Ex, instances-One, instances-Far, instances-Pair, nest_of-Lone, nest_of-Compare, nest_of-Not, nest_of-And, nest_of-Or, nest_of-Implies, nest_of-Iff, nest_of-All, nest_of-Ex, nest_of-One, nest_of-Far, nest_of-Pair}
 use Rattle.trio_limits.specs.declared.counts.TermCounts.{TermCounts}
@@ -131,8 +131,8 @@ module _ (w : World) (vs : List ℕ) where
       j ≡ given_count (size * c.instances + 1) → p ≡ given_count (c.plain + 1) → unbracketed c.bound j p ≡ quantified_of w vs d f
   counts-quantified d f c is size j p sized counted plain =
       let count : j ≡ given_count (size_of w.domains d * instances w f + 1) =
-          counted ∙ ap (λ n. given_count (n * c.instances + 1)) sized ∙ ap (λ (e : Counts). given_count (size_of w.domains d * e.instances + 1)) is
-          ∙ given_times_more (size_of w.domains d) (instances w f) 1 in
+      counted ∙ ap (λ n. given_count (n * c.instances + 1)) sized ∙ ap (λ (e : Counts). given_count (size_of w.domains d * e.instances + 1)) is
+      ∙ given_times_more (size_of w.domains d) (instances w f) 1 in
       let brackets : p ≡ given_count (1 + (nest_of f).plain) = omega (arith, plain, ap (λ (e : Counts). e.plain) is) in
       rw (count, brackets, ap (λ (e : Counts). e.bound) is) refl
 
@@ -174,11 +174,11 @@ module _ (w : World) (vs : List ℕ) where
       p ≡ max before.grouped c.grouped → the_list_counts b j p ≡ formulas_of w vs (take (k + 1) fs)
   formulas_next fs k f below is before counted c more b j p most added plain =
       let mosts : greatest (map (λ f. greatest_bound w f vs) (take (k + 1) fs)) ≡ max (greatest (map (λ f. greatest_bound w f vs) (take k fs))) (greatest_bound w f vs) =
-          ap greatest (mapped_next (λ f. greatest_bound w f vs) fs k f below is) ∙ greatest-last (map (λ f. greatest_bound w f vs) (take k fs)) (greatest_bound w f vs) in
+      ap greatest (mapped_next (λ f. greatest_bound w f vs) fs k f below is) ∙ greatest-last (map (λ f. greatest_bound w f vs) (take k fs)) (greatest_bound w f vs) in
       let sums : sum (map (instances w) (take (k + 1) fs)) ≡ sum (map (instances w) (take k fs)) + instances w f =
-          ap sum (mapped_next (instances w) fs k f below is) ∙ sum-last (map (instances w) (take k fs)) (instances w f) in
+      ap sum (mapped_next (instances w) fs k f below is) ∙ sum-last (map (instances w) (take k fs)) (instances w f) in
       let groups : greatest (map (λ f. (nest_of f).grouped) (take (k + 1) fs)) ≡ max (greatest (map (λ f. (nest_of f).grouped) (take k fs))) (nest_of f).grouped =
-          ap greatest (mapped_next (λ f. (nest_of f).grouped) fs k f below is) ∙ greatest-last (map (λ f. (nest_of f).grouped) (take k fs)) (nest_of f).grouped in
+      ap greatest (mapped_next (λ f. (nest_of f).grouped) fs k f below is) ∙ greatest-last (map (λ f. (nest_of f).grouped) (take k fs)) (nest_of f).grouped in
       same_list b j p _ _ _
       (omega (arith, most, mosts, ap (λ (l : ListCounts). l.bound) counted, ap (λ (e : Counts). e.bound) more))
       (omega (arith, added, sums, ap (λ (l : ListCounts). l.instances) counted, ap (λ (e : Counts). e.instances) more))

@@ -1,5 +1,5 @@
 -- The greatest of numbers, their sum, and the brackets round them, with one more behind.
-use Rattle.std.proofs.Common.{◌≡◌, ℕ, ◌+◌, max, sum, List, [], ◌∷◌, ◌++◌, map, take, length, get_or, ◌<◌, refl, sym, ap, ◌∙◌, arith}
+use Rattle.std.proofs.Common.{◌≡◌, ℕ, ◌+◌, max, sum, List, [], ◌∷◌, ◌++◌, map, take, length, get_or, ◌<◌, sym, ap, ◌∙◌, arith}
 use Rattle.std.proofs.lemmas.List.Sums.{sum_by-append, sum_by-cons}
 use Rattle.std.proofs.lemmas.List.{take_more, map-append}
 use Rattle.trio_types.specs.Bounds.{greatest}

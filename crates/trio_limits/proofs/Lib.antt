@@ -3,3 +3,7 @@ pub mod Greatest
 pub mod DomainSizes
 pub mod TermCounts
 pub mod FormulaCounts
+pub mod FirstAbove
+pub mod CellSums
+pub mod ClaimCounts
+pub mod AllCounts

@@ -1,7 +1,7 @@
 -- Counts as they are given, under sums, products and greatest of them.
-use Rattle.std.proofs.Common.{◌≡◌, ℕ, zero, suc, ◌+◌, ◌*◌, ◌≤◌, ◌<◌, min, max, refl, sym, ap, ◌∙◌, arith}
+use Rattle.std.proofs.Common.{◌≡◌, ℕ, zero, suc, ◌+◌, ◌*◌, ◌≤◌, max, ap, ◌∙◌, arith}
 use Rattle.std.proofs.Math.Logic.{⊎_elim}
-use Rattle.std.proofs.Math.Nat.{mul-le-mul_right}
+use Rattle.std.proofs.Math.Nat.{mul-le-mul_right, mul_comm}
 use Rattle.std.proofs.lemmas.Bool.{cases_lt}
 use Rattle.trio_limits.specs.Given.{given_count}
 
@@ -32,3 +32,6 @@ given_times (suc n) x = ⊎_elim
     let second : 1 * x ≤ suc n * x = mul-le-mul_right x one in
     omega arith)
     (cases_lt x 18446744073709551615)
+
+pub given_by : (x n : ℕ) → given_count (given_count x * n) ≡ given_count (x * n)
+given_by x n = ap given_count (mul_comm (given_count x) n) ∙ given_times n x ∙ ap given_count (mul_comm n x)

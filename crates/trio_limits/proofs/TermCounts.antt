@@ -1,5 +1,5 @@
 -- The counts of each form of a term, from those of its parts.
-use Rattle.std.proofs.Common.{◌≡◌, ℕ, ◌+◌, ◌*◌, ◌≤◌, min, max, sum, List, [], ◌∷◌, ◌++◌, map, take, length, get_or, ◌<◌, slice_get, refl, sym, ap, ◌∙◌, arith}
+use Rattle.std.proofs.Common.{◌≡◌, ℕ, ◌+◌, ◌*◌, ◌≤◌, max, sum, List, map, take, length, get_or, ◌<◌, slice_get, refl, sym, ap, ◌∙◌, arith}
 use Rattle.trio_types.specs.declared.formula.Term.{Term}
 use Rattle.trio_types.specs.declared.formula.Term.TheVariants as term
 use Rattle.trio_types.specs.declared.formula.SignedTerm.{SignedTerm, out-SignedTerm}
@@ -14,7 +14,7 @@ use Rattle.trio_limits.specs.declared.counts.ArgumentCounts.{ArgumentCounts}
 use Rattle.trio_limits.specs.declared.counts.PartCounts.{PartCounts}
 use Rattle.trio_limits.specs.Given.{given_count}
 use Rattle.trio_limits.specs.Counting.{leaf, term_counts_of, arguments_of, parts_of}
-use Rattle.trio_limits.proofs.Saturating.{given_small, given_add, given_more, given_max, given_times}
+use Rattle.trio_limits.proofs.Saturating.{given_small, given_times}
 use Rattle.trio_limits.proofs.Greatest.{greatest-last, sum-last, in_brackets-last, mapped_next}
 
 abbrev pub the_counts : ℕ → ℕ → ℕ → ℕ → ℕ → TermCounts
@@ -66,9 +66,9 @@ module _ (w : World) (vs : List ℕ) where
       let inner : ℕ = greatest (map (λ (p : Bound). p.most) (map (bound_of w vs) args)) in
       let brackets : ℕ = in_brackets (map (λ (p : TermNest). p.plain) (map nest_of_term args)) in
       let mosts : a.most ≡ given_count inner =
-          ap (λ (c : ArgumentCounts). c.most) counted ∙ ap (λ ns. given_count (greatest ns)) (sym (map-map (λ (p : Bound). p.most) (bound_of w vs) args)) in
+      ap (λ (c : ArgumentCounts). c.most) counted ∙ ap (λ ns. given_count (greatest ns)) (sym (map-map (λ (p : Bound). p.most) (bound_of w vs) args)) in
       let plains : a.plain ≡ given_count brackets =
-          ap (λ (c : ArgumentCounts). c.plain) counted ∙ ap (λ ns. given_count (in_brackets ns)) (sym (map-map (λ (p : TermNest). p.plain) nest_of_term args)) in
+      ap (λ (c : ArgumentCounts). c.plain) counted ∙ ap (λ ns. given_count (in_brackets ns)) (sym (map-map (λ (p : TermNest). p.plain) nest_of_term args)) in
       same b most a.plain a.plain a.plain (given_count own) (given_count (max own inner)) (given_count brackets) (given_count brackets) (given_count brackets)
       (omega (arith, is)) (omega (arith, is, greater, mosts)) plains plains plains
       ∙ of_both w vs (term.Read n args) (record { own = own; most = max own inner }) (record { plain = brackets; as_part = brackets; as_factor = brackets })
@@ -83,14 +83,14 @@ module _ (w : World) (vs : List ℕ) where
       let inner : ℕ = greatest (map (λ (b : Bound). b.most) bounds) in
       let brackets : ℕ = greatest (map (λ (n : TermNest). n.as_part) nests) in
       let owns : p.own ≡ given_count own =
-          ap (λ (c : PartCounts). c.own) counted
-          ∙ ap (λ ns. given_count (sum ns)) (sym (map-map (λ (b : Bound). b.own) (λ (q : SignedTerm). bound_of w vs (out-SignedTerm q).term) parts)) in
+      ap (λ (c : PartCounts). c.own) counted
+      ∙ ap (λ ns. given_count (sum ns)) (sym (map-map (λ (b : Bound). b.own) (λ (q : SignedTerm). bound_of w vs (out-SignedTerm q).term) parts)) in
       let mosts : p.most ≡ given_count inner =
-          ap (λ (c : PartCounts). c.most) counted
-          ∙ ap (λ ns. given_count (greatest ns)) (sym (map-map (λ (b : Bound). b.most) (λ (q : SignedTerm). bound_of w vs (out-SignedTerm q).term) parts)) in
+      ap (λ (c : PartCounts). c.most) counted
+      ∙ ap (λ ns. given_count (greatest ns)) (sym (map-map (λ (b : Bound). b.most) (λ (q : SignedTerm). bound_of w vs (out-SignedTerm q).term) parts)) in
       let plains : p.as_part ≡ given_count brackets =
-          ap (λ (c : PartCounts). c.as_part) counted
-          ∙ ap (λ ns. given_count (greatest ns)) (sym (map-map (λ (n : TermNest). n.as_part) (λ (q : SignedTerm). nest_of_term (out-SignedTerm q).term) parts)) in
+      ap (λ (c : PartCounts). c.as_part) counted
+      ∙ ap (λ ns. given_count (greatest ns)) (sym (map-map (λ (n : TermNest). n.as_part) (λ (q : SignedTerm). nest_of_term (out-SignedTerm q).term) parts)) in
       let more : bracketed ≡ given_count (1 + brackets) = omega (arith, is, plains) in
       same p.own most p.as_part bracketed bracketed (given_count own) (given_count (max own inner)) (given_count brackets) (given_count (1 + brackets)) (given_count (1 + brackets))
       owns (omega (arith, greater, owns, mosts)) plains more more
@@ -117,10 +117,10 @@ module _ (w : World) (vs : List ℕ) where
       the_argument_counts most plain ≡ arguments_of w vs (take (i + 1) args)
   arguments_next args i x below is before counted c more most bracketed plain greater one deeper =
       let mosts : greatest (map (λ a. (bound_of w vs a).most) (take (i + 1) args)) ≡ max (greatest (map (λ a. (bound_of w vs a).most) (take i args))) (bound_of w vs x).most =
-          ap greatest (mapped_next (λ a. (bound_of w vs a).most) args i x below is) ∙ greatest-last (map (λ a. (bound_of w vs a).most) (take i args)) (bound_of w vs x).most in
+      ap greatest (mapped_next (λ a. (bound_of w vs a).most) args i x below is) ∙ greatest-last (map (λ a. (bound_of w vs a).most) (take i args)) (bound_of w vs x).most in
       let plains : in_brackets (map (λ a. (nest_of_term a).plain) (take (i + 1) args)) ≡ max (in_brackets (map (λ a. (nest_of_term a).plain) (take i args))) ((nest_of_term x).plain + 1) =
-          ap in_brackets (mapped_next (λ a. (nest_of_term a).plain) args i x below is)
-          ∙ in_brackets-last (map (λ a. (nest_of_term a).plain) (take i args)) (nest_of_term x).plain in
+      ap in_brackets (mapped_next (λ a. (nest_of_term a).plain) args i x below is)
+      ∙ in_brackets-last (map (λ a. (nest_of_term a).plain) (take i args)) (nest_of_term x).plain in
       same_arguments most plain _ _
       (omega (arith, greater, mosts, ap (λ (a : ArgumentCounts). a.most) counted, ap (λ (a : TermCounts). a.most) more))
       (omega (arith, deeper, one, plains, ap (λ (a : ArgumentCounts). a.plain) counted, ap (λ (a : TermCounts). a.plain) more))
@@ -134,11 +134,11 @@ module _ (w : World) (vs : List ℕ) where
       let b : SignedTerm → Bound = λ p. bound_of w vs (out-SignedTerm p).term in
       let n : SignedTerm → TermNest = λ p. nest_of_term (out-SignedTerm p).term in
       let owns : sum (map (λ p. (b p).own) (take (i + 1) parts)) ≡ sum (map (λ p. (b p).own) (take i parts)) + (b x).own =
-          ap sum (mapped_next (λ p. (b p).own) parts i x below is) ∙ sum-last (map (λ p. (b p).own) (take i parts)) (b x).own in
+      ap sum (mapped_next (λ p. (b p).own) parts i x below is) ∙ sum-last (map (λ p. (b p).own) (take i parts)) (b x).own in
       let mosts : greatest (map (λ p. (b p).most) (take (i + 1) parts)) ≡ max (greatest (map (λ p. (b p).most) (take i parts))) (b x).most =
-          ap greatest (mapped_next (λ p. (b p).most) parts i x below is) ∙ greatest-last (map (λ p. (b p).most) (take i parts)) (b x).most in
+      ap greatest (mapped_next (λ p. (b p).most) parts i x below is) ∙ greatest-last (map (λ p. (b p).most) (take i parts)) (b x).most in
       let plains : greatest (map (λ p. (n p).as_part) (take (i + 1) parts)) ≡ max (greatest (map (λ p. (n p).as_part) (take i parts))) (n x).as_part =
-          ap greatest (mapped_next (λ p. (n p).as_part) parts i x below is) ∙ greatest-last (map (λ p. (n p).as_part) (take i parts)) (n x).as_part in
+      ap greatest (mapped_next (λ p. (n p).as_part) parts i x below is) ∙ greatest-last (map (λ p. (n p).as_part) (take i parts)) (n x).as_part in
       same_parts own most as_part _ _ _
       (omega (arith, added, owns, ap (λ (a : PartCounts). a.own) counted, ap (λ (a : TermCounts). a.own) more))
       (omega (arith, greater, mosts, ap (λ (a : PartCounts). a.most) counted, ap (λ (a : TermCounts). a.most) more))

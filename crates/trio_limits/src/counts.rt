@@ -105,3 +105,14 @@ pub struct ListCounts {
     /// The most brackets that are open in the text of a part as a group.
     pub grouped: u64,
 }
+
+/// What is counted of axioms or goals.
+#[derive(Clone, Copy, Debug, PartialEq, Eq)]
+pub struct ClaimCounts {
+    /// The greatest static bound of a term in them.
+    pub bound: u64,
+    /// How many instances they stand for at all instants.
+    pub instances: u64,
+    /// The most brackets that are open in their text.
+    pub plain: u64,
+}

@@ -2,6 +2,8 @@ pub mod Erased
 pub mod KindLemmas
 pub mod RangeLemmas
 pub mod FormedPhases
+pub mod FormedTerms
+pub mod FormedKinds
 pub mod FormedDomains
 pub mod FormedCases
 pub mod FormedClaims

@@ -1,1 +1,13 @@
 pub mod Depths
+pub mod Says
+pub mod Sets
+pub mod Lines
+pub mod Tokens
+pub mod Left
+pub mod Filled
+pub mod Exits
+pub mod Loops
+pub mod Places
+pub mod Faults
+pub mod Total
+pub mod Formed

@@ -118,11 +118,24 @@ bound = both a_name (behind signs.Colon (both ref (round (row formula))))
 
 -- the rest of an operator with a distance: ( formula , term )
 abbrev pub distant : Form (FormulaTree × TermTree)
-distant = round (both (row formula) (behind signs.Comma (row term)))
+distant = behind signs.LeftRound (both (before (row formula) signs.Comma) (before (row term) signs.RightRound))
 
 -- the rest of an operator on two formulas: ( formula , formula )
 abbrev pub paired : Form (FormulaTree × FormulaTree)
-paired = round (both (row formula) (behind signs.Comma (row formula)))
+paired = behind signs.LeftRound (both (before (row formula) signs.Comma) (before (row formula) signs.RightRound))
+
+-- a quantifier, and the operators: on one formula, with a distance, and on two formulas
+abbrev pub quantified : Form FormulaTree
+quantified = seq (a quantifier) bound (λ p q r. formulas.Quantified q r.0 r.1.0 r.1.1)
+
+abbrev pub one_operation : Form FormulaTree
+one_operation = seq (a one_operator) (round (row formula)) (λ p op f. formulas.One op f)
+
+abbrev pub far_operation : Form FormulaTree
+far_operation = seq (a far_operator) distant (λ p op r. formulas.Far op r.0 r.1)
+
+abbrev pub pair_operation : Form FormulaTree
+pair_operation = seq (a pair_operator) paired (λ p op r. formulas.Pair op r.0 r.1)
 
 -- atom = term [ rel term ]
 abbrev pub atom : Form FormulaTree
@@ -146,23 +159,18 @@ body conj = listed signs.And (row unary)
 -- unary = [ ! ] primary
 body unary = either (seq (a_sign signs.Not) (row primary) (λ p u f. formulas.Not f)) (row primary)
 -- primary = ( formula ), or quantifier, or operator, or atom
-body primary =
-    either (round (row formula))
-    (either (seq (a quantifier) bound (λ p q r. formulas.Quantified q r.0 r.1.0 r.1.1))
-    (either (seq (a one_operator) (round (row formula)) (λ p op f. formulas.One op f))
-    (either (seq (a far_operator) distant (λ p op r. formulas.Far op r.0 r.1))
-    (either (seq (a pair_operator) paired (λ p op r. formulas.Pair op r.0 r.1)) atom))))
+body primary = either (round (row formula)) (either quantified (either one_operation (either far_operation (either pair_operation atom))))
 -- term = [ - ] summand { ( + or - ) summand }
 body term = seq signed (both (row summand) more_summands) (λ p minus r. sum p minus r.0 r.1)
 -- summand = number [ * factor ], or what else is a factor
 body summand = either (seq a_number (optional (seq (a_sign signs.Times) (row factor) (λ p u t. Some t))) product) (row basic)
 -- factor = number, or what else is a factor
 body factor = either (one number (λ p n. record { place = p; shape = shape.Number (record { number = n; place = p }) })) (row basic)
--- what else is a factor: true, or false, or name, or name ( term { , term } ), or [ term ]
+-- what else is a factor: true, or false, or [ term ], or name, or name ( term { , term } )
 body basic =
     either (one truth (λ p b. record { place = p; shape = shape.Truth b }))
-    (either (seq a_name arguments named)
-    (seq (a_sign signs.LeftSquare) (before (row term) signs.RightSquare) (λ p u t. record { place = p; shape = t.shape })))
+    (either (seq (a_sign signs.LeftSquare) (before (row term) signs.RightSquare) (λ p u t. record { place = p; shape = t.shape }))
+    (seq a_name arguments named))
 
 -- int = [ - ] number
 abbrev pub int : Form IntTree
@@ -175,35 +183,45 @@ domain_values =
     (seq int (behind signs.Span int) (λ p least greatest. values.Range least greatest))
 
 -- domain name = values ;
+abbrev pub domain_rest : Form (Mention × ValuesTree)
+domain_rest = both a_name (behind signs.Eq (before domain_values signs.Semi))
+
 abbrev pub domain : Form DeclarationTree
-domain =
-    seq (a_word words.Domain) (both a_name (behind signs.Eq (before domain_values signs.Semi)))
-    (λ p u d. declared.Domain (record { name = d.0; values = d.1 }))
+domain = seq (a_word words.Domain) domain_rest (λ p u r. declared.Domain (record { name = r.0; values = r.1 }))
 
 -- [ ( ref { , ref } ) ]
 abbrev pub refs : Form (List RefTree)
 refs = either (round (listed signs.Comma ref)) (empty [])
 
 -- ( item or input ) name [ ( ref { , ref } ) ] : ref ;
+abbrev pub item_rest : Form (Mention × (List RefTree × RefTree))
+item_rest = both a_name (both refs (behind signs.Colon (before ref signs.Semi)))
+
 abbrev pub item : Form DeclarationTree
-item =
-    seq (a item_kind) (both a_name (both refs (behind signs.Colon (before ref signs.Semi))))
-    (λ p input r. declared.Item (record { input = input; name = r.0; args = r.1.0; value = r.1.1 }))
+item = seq (a item_kind) item_rest (λ p input r. declared.Item (record { input = input; name = r.0; args = r.1.0; value = r.1.1 }))
 
 -- [ at number ]
 abbrev pub instant : Form (Option Written)
 instant = optional (seq (a_word words.At) a_number (λ p u n. Some n))
 
 -- ( axiom or goal ) name [ at number ] : formula ;
+abbrev pub claim_rest : Form (Mention × (Option Written × FormulaTree))
+claim_rest = both a_name (both instant (behind signs.Colon (before (row formula) signs.Semi)))
+
 abbrev pub claim : Form ClaimTree
-claim =
-    seq (a claim_kind) (both a_name (both instant (behind signs.Colon (before (row formula) signs.Semi))))
-    (λ p goal r. record { goal = goal; name = r.0; at = r.1.0; formula = r.1.1 })
+claim = seq (a claim_kind) claim_rest (λ p goal r. record { goal = goal; name = r.0; at = r.1.0; formula = r.1.1 })
+
+-- { domain or item } { axiom or goal }
+abbrev pub declarations : Form (List DeclarationTree)
+declarations = many (either item domain)
+
+abbrev pub claims : Form (List ClaimTree)
+claims = many claim
 
 -- spec = time number ; { domain or item } { axiom or goal }
 abbrev pub spec : Form SpecTree
 spec =
-    seq (a_word words.Time) (both a_number (behind signs.Semi (both (many (either domain item)) (many claim))))
+    seq (a_word words.Time) (both a_number (behind signs.Semi (both declarations claims)))
     (λ p u r. record { instants = r.0; declarations = r.1.0; claims = r.1.1 })
 
 -- the texts of a row in which so many rows at most stand inside one another

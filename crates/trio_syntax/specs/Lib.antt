@@ -4,4 +4,5 @@ pub mod Forms
 pub mod Grammar
 pub mod Depth
 pub mod Answer
+pub mod Exact
 pub mod Shape

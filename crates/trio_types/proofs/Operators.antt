@@ -63,7 +63,7 @@ from_each w q p each =
     (λ any. let r = some_instant w q (λ j. not (p j)) any in false≢true (sym (not-true (p r.0) r.3) ∙ each r.0 r.1 r.2)))
 
 -- a filter that passes all
-all_pass : {X : Type 0} (xs : List X) → filter (λ x. true) xs ≡ xs
+pub all_pass : {X : Type 0} (xs : List X) → filter (λ x. true) xs ≡ xs
 all_pass [] = refl
 all_pass (x ∷ xs) = ap (λ ys. x ∷ ys) (all_pass xs)
 
@@ -171,7 +171,7 @@ tells_past i = (
 )
 
 -- a test before a filter, and in it
-guarded : {X : Type 0} (b : Bool) (p q : X → Bool) (xs : List X) → (b && list_any p (filter q xs)) ≡ list_any p (filter (λ x. b && q x) xs)
+pub guarded : {X : Type 0} (b : Bool) (p q : X → Bool) (xs : List X) → (b && list_any p (filter q xs)) ≡ list_any p (filter (λ x. b && q x) xs)
 guarded true p q xs = refl
 guarded false p q [] = refl
 guarded false p q (x ∷ xs) = guarded false p q xs

@@ -78,7 +78,7 @@ parts_are_many parts = list_all (λ a. is_shaped a.formula) (claims_of parts)
 abbrev pub numbers_are_small : Parts → Bool
 numbers_are_small parts = list_all (λ n. nat_le n GREATEST_NUMBER) (flat_map (λ a. numbers_of a.formula) (claims_of parts))
 
-abbrev instant_fits : ℕ → Option ℕ → Bool
+abbrev pub instant_fits : ℕ → Option ℕ → Bool
 instant_fits instants None = true
 instant_fits instants (Some k) = nat_lt k instants
 

@@ -1,5 +1,5 @@
 -- The answers to the goals of `value_of`, `read` and `sum`.
-use Rattle.std.proofs.Common.{◌≡◌, ℕ, ◌+◌, ◌<◌, ◌≤◌, Bool, true, ℤ, pos, neg_ℤ, ◌+ℤ◌, ◌*ℤ◌, nat_abs, cond, List, length, map, take, get_or, set, sum, Option, None, Some, slice_get, to_z, of_z, w64, subst, refl, sym, ap, ◌∙◌, arith, rules}
+use Rattle.std.proofs.Common.{◌≡◌, ℕ, ◌<◌, ◌≤◌, ℤ, pos, neg_ℤ, ◌+ℤ◌, ◌*ℤ◌, nat_abs, List, length, map, take, get_or, sum, Option, None, Some, slice_get, to_z, of_z, w64, subst, refl, sym, ap, ◌∙◌, arith, rules}
 use Rattle.std.specs.Option.{option_map}
 use Rattle.std.proofs.lemmas.Bool.{cond-true, cond-false}
 use Rattle.std.proofs.lemmas.Int.{ints}
@@ -7,12 +7,10 @@ use Rattle.std.proofs.lemmas.List.{length-set, length-map, length-take-le, take_
 use Rattle.std.proofs.lemmas.Option.{slice_get-map, slice_get-get_or, slice_get_within, same_Some}
 use Rattle.trio_types.specs.declared.formula.SignedTerm.{SignedTerm, out-SignedTerm}
 use Rattle.trio_types.specs.declared.formula.Term.{Term}
-use Rattle.trio_types.specs.declared.formula.Term.TheVariants as term
 use Rattle.trio_types.specs.declared.formula.Term.TheFolds.{the_lemmas}
-use Rattle.trio_types.specs.World.{values_in, size_of}
-use Rattle.trio_types.specs.Cells.{Cell, the_cell, cells_of, item_takes, number_at, cell_size}
+use Rattle.trio_types.specs.World.{values_in}
+use Rattle.trio_types.specs.Cells.{the_cell, cells_of, item_takes}
 use Rattle.trio_types.specs.Values.{value, indexes, index_of, sum_of}
-use Rattle.trio_types.specs.Bounds.{bound_of}
 use Rattle.trio_types.specs.Verdict.{world_of, parts_of}
 use Rattle.trio_types.proofs.Specs.{formed, value_domain, few_arguments, argument_domain}
 use Rattle.trio_types.proofs.CellNumbers.{args_named, size_inside, size_from_item}
@@ -28,7 +26,6 @@ pub read-get-declared-requires : goal.read-get-declared-requires
 read-get-declared-requires t c =
     let r = read_item (world_of c.args.spec.now) c.args.item c.args.args.now c.args.values.now c.requires.term_fits in
     slice_get_within c.args.spec.now.items c.args.item r.0 r.1
-
 
 pub read-loop-place-init : goal.read-loop-place-init
 read-loop-place-init t c = record { told = sym (map_id _); four = refl }
@@ -47,7 +44,6 @@ read-value_of-requires t c =
     let x = c.index-args-place.result in
     let at = slice_get-get_or args k x c.loop-place-test.true ∙ ap Some (sym c.index-args-place.is) in
     (search (ints, rules, the_lemmas), (c.requires.table_fits, (read_arg w c.args.item args e fits k x at, c.requires.instant_in)))
-
 
 pub read-returns-in_default-clause-is : goal.read-returns-in_default-clause-is
 read-returns-in_default-clause-is t c =
@@ -68,7 +64,6 @@ read-returns-in_default-clause-is t c =
     let none = slice_get-map f args k ∙ ap (option_map f) at ∙ ap Some (sym c.value_of.ensures.is ∙ c.in_default.is) in
     sym (read_is w c.args.item args e table i declared None c.get-declared.ensures (no_value_at spec.domains declared.args zs k (omega (arith, lengths, c.loop-place-test.true)) none))
 
-
 pub read-bounds-domains-place : goal.read-bounds-domains-place
 read-bounds-domains-place t c =
     let spec = c.args.spec.now in
@@ -81,7 +76,6 @@ read-bounds-domains-place t c =
     let fits = c.requires.term_fits in
     let lengths = read_length w c.args.item args e fits declared c.get-declared.ensures in
     omega (arith, ap length c.as_slice-domains.ensures, lengths, c.loop-place-test.true)
-
 
 pub read-index_of-requires-clause-domain_in : goal.read-index_of-requires-clause-domain_in
 read-index_of-requires-clause-domain_in t c =
@@ -97,7 +91,6 @@ read-index_of-requires-clause-domain_in t c =
     let k = c.loop-place.place in
     let inside = size_inside spec.domains declared.args k (args_named (parts_of spec) (formed spec) c.args.item declared c.get-declared.ensures) (omega (arith, lengths, c.loop-place-test.true)) in
     omega (arith, ap (λ l. get_or l k 0) c.as_slice-domains.ensures, inside)
-
 
 pub read-index_of-requires-clause-not_far_back : goal.read-index_of-requires-clause-not_far_back
 read-index_of-requires-clause-not_far_back t c =
@@ -118,7 +111,6 @@ read-index_of-requires-clause-not_far_back t c =
     let near = near_of z small in
     omega (arith, ints, near.not_far_back, near.not_far_on)
 
-
 pub read-index_of-requires-clause-not_far_on : goal.read-index_of-requires-clause-not_far_on
 read-index_of-requires-clause-not_far_on t c =
     let spec = c.args.spec.now in
@@ -137,7 +129,6 @@ read-index_of-requires-clause-not_far_on t c =
     let small = small_value w x e arg_fits c.value_of.result z c.value_of.ensures.bounded c.in-Some.is in
     let near = near_of z small in
     omega (arith, ints, near.not_far_back, near.not_far_on)
-
 
 pub read-returns-in_default-index_of-clause-is : goal.read-returns-in_default-index_of-clause-is
 read-returns-in_default-index_of-clause-is t c =
@@ -163,7 +154,6 @@ read-returns-in_default-index_of-clause-is t c =
     ∙ ap (index_of (values_in spec.domains (get_or c.as_slice-domains.result.now k 0))) (passed z small) ∙ sym c.index_of.ensures ∙ c.in_default-index_of.is in
     sym (read_is w c.args.item args e table i declared None c.get-declared.ensures (no_index_at spec.domains declared.args zs k z (omega (arith, lengths, c.loop-place-test.true)) here none))
 
-
 pub read-bounds-indexes-place : goal.read-bounds-indexes-place
 read-bounds-indexes-place t c =
     let spec = c.args.spec.now in
@@ -177,7 +167,6 @@ read-bounds-indexes-place t c =
     let lengths = read_length w c.args.item args e fits declared c.get-declared.ensures in
     let few = few_arguments (parts_of spec) (formed spec) c.args.item declared c.get-declared.ensures in
     omega (arith, lengths, few, c.loop-place-test.true)
-
 
 pub read-loop-place-preserved : goal.read-loop-place-preserved
 read-loop-place-preserved t c =
@@ -210,7 +199,6 @@ read-loop-place-preserved t c =
       four = length-set idx k v ∙ c.loop-place.invariant.four;
     }
 
-
 pub read-slice_bounds-indexes-end : goal.read-slice_bounds-indexes-end
 read-slice_bounds-indexes-end t c =
     let spec = c.args.spec.now in
@@ -224,7 +212,6 @@ read-slice_bounds-indexes-end t c =
     let lengths = read_length w c.args.item args e fits declared c.get-declared.ensures in
     let few = few_arguments (parts_of spec) (formed spec) c.args.item declared c.get-declared.ensures in
     omega (arith, lengths, few, c.loop-place.invariant.four)
-
 
 pub read-slice_bounds-cell_of-end : goal.read-slice_bounds-cell_of-end
 read-slice_bounds-cell_of-end t c =
@@ -240,12 +227,10 @@ read-slice_bounds-cell_of-end t c =
     let few = few_arguments (parts_of spec) (formed spec) c.args.item declared c.get-declared.ensures in
     sym (length-take-le (length args) c.loop-place.indexes (omega (arith, lengths, few, c.loop-place.invariant.four)))
 
-
 pub read-cell_of-cell-requires-clause-item_in : goal.read-cell_of-cell-requires-clause-item_in
 read-cell_of-cell-requires-clause-item_in t c =
     let r = read_item (world_of c.args.spec.now) c.args.item c.args.args.now c.args.values.now c.requires.term_fits in
     slice_get_within c.args.spec.now.items c.args.item r.0 r.1
-
 
 pub read-cell_of-cell-requires-clause-args_in : goal.read-cell_of-cell-requires-clause-args_in
 read-cell_of-cell-requires-clause-args_in t c =
@@ -271,7 +256,6 @@ read-cell_of-cell-requires-clause-args_in t c =
     let domain = argument_domain (parts_of spec) (formed spec) c.args.item declared c.get-declared.ensures k d is in slice_get_within spec.domains d domain.0 domain.1 in
     ap (λ o. item_takes w o vs) c.get-declared.ensures ∙ indexes_fit spec.domains declared.args zs vs there found
 
-
 pub read-get-index-requires : goal.read-get-index-requires
 read-get-index-requires t c =
     let spec = c.args.spec.now in
@@ -284,7 +268,6 @@ read-get-index-requires t c =
     let fits = c.requires.term_fits in
     let cell = the_cell c.args.item (take (length args) c.loop-place.indexes) i in
     omega (arith, c.requires.table_fits.whole, slice_get_within (cells_of w) c.cell_of-cell.result cell c.cell_of-cell.ensures)
-
 
 pub read-value_at-requires-clause-domain_in : goal.read-value_at-requires-clause-domain_in
 read-value_at-requires-clause-domain_in t c =
@@ -299,7 +282,6 @@ read-value_at-requires-clause-domain_in t c =
     let domain = value_domain (parts_of spec) (formed spec) c.args.item declared c.get-declared.ensures in
     slice_get_within spec.domains declared.value domain.0 domain.1
 
-
 pub read-value_at-requires-clause-index_in : goal.read-value_at-requires-clause-index_in
 read-value_at-requires-clause-index_in t c =
     let spec = c.args.spec.now in
@@ -313,7 +295,6 @@ read-value_at-requires-clause-index_in t c =
     let cell = the_cell c.args.item (take (length args) c.loop-place.indexes) i in
     let below = entry_below w table c.cell_of-cell.result c.get-index.result.now cell c.requires.table_fits c.cell_of-cell.ensures c.get-index.ensures in
     omega (arith, below, size_from_item w cell declared c.get-declared.ensures, c.from.ensures)
-
 
 pub read-returns-clause-is : goal.read-returns-clause-is
 read-returns-clause-is t c =
@@ -344,7 +325,6 @@ read-returns-clause-is t c =
     ∙ value-of_cell w table c.cell_of-cell.result c.get-index.result.now cell declared z c.get-declared.ensures c.requires.table_fits c.cell_of-cell.ensures c.get-index.ensures at_value
     ∙ ap Some (passed z small))
 
-
 pub read-returns-clause-bounded : goal.read-returns-clause-bounded
 read-returns-clause-bounded t c =
     let spec = c.args.spec.now in
@@ -363,7 +343,6 @@ read-returns-clause-bounded t c =
     let same = passed z small ∙ same_Some (to_z w64 (of_z w64 z)) y is in
     read_within w c.args.item args vs declared y c.get-index.result.now c.get-declared.ensures (at_value ∙ ap Some same)
 
-
 pub sum-value_of-requires : goal.sum-value_of-requires
 sum-value_of-requires t c =
     let spec = c.args.spec.now in
@@ -377,7 +356,6 @@ sum-value_of-requires t c =
     let p = c.part-item.result in
     let at = slice_get-get_or parts k p c.loop-part-test.true ∙ ap Some (sym c.part-item.is) in
     (search (ints, rules, the_lemmas), (c.requires.table_fits, (sum_part w parts e fits k p at, c.requires.instant_in)))
-
 
 pub sum-returns-in_default-clause-is : goal.sum-returns-in_default-clause-is
 sum-returns-in_default-clause-is t c =
@@ -394,7 +372,6 @@ sum-returns-in_default-clause-is t c =
     let f : SignedTerm → Option ℤ = λ p. signed_value w p e table i in
     let none = signed_none (out-SignedTerm p).minus (value w (out-SignedTerm p).term e table i) (sym c.value_of.ensures.is ∙ c.in_default.is) in
     sym (value-Sum w parts e table i ∙ sum_stuck f parts k p at none)
-
 
 pub sum-overflow_sub-sum : goal.sum-overflow_sub-sum
 sum-overflow_sub-sum t c =
@@ -413,7 +390,6 @@ sum-overflow_sub-sum t c =
     let small = small_value w (out-SignedTerm p).term e part_fits c.value_of.result z c.value_of.ensures.bounded c.in-Some.is in
     let near = near_of z small in
     omega (arith, ints, near.not_far_back, near.not_far_on)
-
 
 pub sum-overflow_add-sum : goal.sum-overflow_add-sum
 sum-overflow_add-sum t c =
@@ -436,16 +412,15 @@ sum-overflow_add-sum t c =
     let so_far : nat_abs so ≤ 1000000000000 = omega (arith, before, front_bounded w parts e fits k) in
     let near_sum = near_of so so_far in
     let addend : c.if-part.sum ≡ signed (out-SignedTerm p).minus z = elim c.if-part.branch [
-      sum-then-part b ↦
-        let e : c.if-part.sum ≡ neg_ℤ z = omega (arith, ints, near.not_far_back, near.not_far_on, b.sum-is) in
-        e ∙ sym (cond-true (out-SignedTerm p).minus (neg_ℤ z) z b.if-part.true)
+      | sum-then-part b ↦
+          let e : c.if-part.sum ≡ neg_ℤ z = omega (arith, ints, near.not_far_back, near.not_far_on, b.sum-is) in
+          e ∙ sym (cond-true (out-SignedTerm p).minus (neg_ℤ z) z b.if-part.true)
       | sum-else-part b ↦
-        let e : c.if-part.sum ≡ z = omega (arith, ints, near.not_far_back, near.not_far_on, b.sum-is) in
-        e ∙ sym (cond-false (out-SignedTerm p).minus (neg_ℤ z) z b.if-part.false)
+          let e : c.if-part.sum ≡ z = omega (arith, ints, near.not_far_back, near.not_far_on, b.sum-is) in
+          e ∙ sym (cond-false (out-SignedTerm p).minus (neg_ℤ z) z b.if-part.false)
     ] in
     let near_addend = near_of (signed (out-SignedTerm p).minus z) (omega (arith, small, signed_abs (out-SignedTerm p).minus z)) in
     omega (arith, ints, near_sum.not_far_back, near_sum.not_far_on, near_addend.not_far_back, near_addend.not_far_on, addend)
-
 
 pub sum-loop-part-preserved : goal.sum-loop-part-preserved
 sum-loop-part-preserved t c =
@@ -468,12 +443,12 @@ sum-loop-part-preserved t c =
     let so_far : nat_abs so ≤ 1000000000000 = omega (arith, before, front_bounded w parts e fits k) in
     let near_sum = near_of so so_far in
     let addend : c.if-part.sum ≡ signed (out-SignedTerm p).minus z = elim c.if-part.branch [
-      sum-then-part b ↦
-        let e : c.if-part.sum ≡ neg_ℤ z = omega (arith, ints, near.not_far_back, near.not_far_on, b.sum-is) in
-        e ∙ sym (cond-true (out-SignedTerm p).minus (neg_ℤ z) z b.if-part.true)
+      | sum-then-part b ↦
+          let e : c.if-part.sum ≡ neg_ℤ z = omega (arith, ints, near.not_far_back, near.not_far_on, b.sum-is) in
+          e ∙ sym (cond-true (out-SignedTerm p).minus (neg_ℤ z) z b.if-part.true)
       | sum-else-part b ↦
-        let e : c.if-part.sum ≡ z = omega (arith, ints, near.not_far_back, near.not_far_on, b.sum-is) in
-        e ∙ sym (cond-false (out-SignedTerm p).minus (neg_ℤ z) z b.if-part.false)
+          let e : c.if-part.sum ≡ z = omega (arith, ints, near.not_far_back, near.not_far_on, b.sum-is) in
+          e ∙ sym (cond-false (out-SignedTerm p).minus (neg_ℤ z) z b.if-part.false)
     ] in
     let near_addend = near_of (signed (out-SignedTerm p).minus z) (omega (arith, small, signed_abs (out-SignedTerm p).minus z)) in
     let f : SignedTerm → Option ℤ = λ p. signed_value w p e table i in
@@ -490,7 +465,6 @@ sum-loop-part-preserved t c =
           omega (arith, ap nat_abs total_is, triangle so (signed (out-SignedTerm p).minus z), signed_abs (out-SignedTerm p).minus z, own, more, so_far);
     }
 
-
 pub sum-returns-clause-is : goal.sum-returns-clause-is
 sum-returns-clause-is t c =
     let spec = c.args.spec.now in
@@ -503,7 +477,6 @@ sum-returns-clause-is t c =
     let f : SignedTerm → Option ℤ = λ p. signed_value w p e table i in
     let k = c.loop-part.part-index in
     sym c.loop-part.invariant.is ∙ ap (λ l. sum_of (map f l)) (take_all k parts c.loop-part-test.false) ∙ sym (value-Sum w parts e table i)
-
 
 pub sum-returns-clause-bounded : goal.sum-returns-clause-bounded
 sum-returns-clause-bounded t c =
@@ -522,7 +495,6 @@ sum-returns-clause-bounded t c =
     let all = ap (λ l. sum (map (own_bound w vs) l)) (take_all k parts c.loop-part-test.false) in
     sum_within w parts vs z (omega (arith, ap nat_abs same, all, so_far))
 
-
 pub value_of-bounds-values-level : goal.value_of-bounds-values-level
 value_of-bounds-values-level t c =
     let spec = c.args.spec.now in
@@ -532,7 +504,6 @@ value_of-bounds-values-level t c =
     let i = c.args.instant in
     let P : Term → Type 0 = λ x. TermFits w x e in
     var_inside w c.in-Var.level e (subst P c.in-Var.is c.requires.term_fits)
-
 
 pub value_of-returns-in-Var-clause-is : goal.value_of-returns-in-Var-clause-is
 value_of-returns-in-Var-clause-is t c =
@@ -549,7 +520,6 @@ value_of-returns-in-Var-clause-is t c =
     let near = var_within w level e fits.variables fits.are_values z at in
     let small : nat_abs z ≤ 1000000000000 = omega (arith, near.most, fits.bounded) in
     sym (ap (λ x. value w x e table i) c.in-Var.is ∙ value-Var w level e table i ∙ ap Some (passed z small))
-
 
 pub value_of-returns-in-Var-clause-bounded : goal.value_of-returns-in-Var-clause-bounded
 value_of-returns-in-Var-clause-bounded t c =
@@ -570,7 +540,6 @@ value_of-returns-in-Var-clause-bounded t c =
     let same = passed z small ∙ same_Some (to_z w64 (of_z w64 z)) y is in
     subst Q (sym c.in-Var.is) (var_within w level e vs are y (at ∙ ap Some same))
 
-
 pub value_of-returns-in-Number-clause-is : goal.value_of-returns-in-Number-clause-is
 value_of-returns-in-Number-clause-is t c =
     let spec = c.args.spec.now in
@@ -580,7 +549,6 @@ value_of-returns-in-Number-clause-is t c =
     let i = c.args.instant in
     let same : pos c.in-Number.number ≡ to_z w64 (of_z w64 c.from.result) = omega (arith, ints, c.from.ensures) in
     sym (ap (λ x. value w x e table i) c.in-Number.is ∙ value-Number w c.in-Number.number e table i ∙ ap Some same)
-
 
 pub value_of-returns-in-Number-clause-bounded : goal.value_of-returns-in-Number-clause-bounded
 value_of-returns-in-Number-clause-bounded t c =
@@ -594,7 +562,6 @@ value_of-returns-in-Number-clause-bounded t c =
     let same : pos c.in-Number.number ≡ to_z w64 (of_z w64 c.from.result) = omega (arith, ints, c.from.ensures) in
     subst Q (sym c.in-Number.is) (number_within w c.in-Number.number vs y (sym (same ∙ same_Some (to_z w64 (of_z w64 c.from.result)) y is)))
 
-
 pub value_of-returns-in-Value-clause-is : goal.value_of-returns-in-Value-clause-is
 value_of-returns-in-Value-clause-is t c =
     let spec = c.args.spec.now in
@@ -604,7 +571,6 @@ value_of-returns-in-Value-clause-is t c =
     let i = c.args.instant in
     let same : pos c.in-Value.index ≡ to_z w64 (of_z w64 c.from-in-Value.result) = omega (arith, ints, c.from-in-Value.ensures) in
     sym (ap (λ x. value w x e table i) c.in-Value.is ∙ value-Value w c.in-Value.field-0 c.in-Value.index e table i ∙ ap Some same)
-
 
 pub value_of-returns-in-Value-clause-bounded : goal.value_of-returns-in-Value-clause-bounded
 value_of-returns-in-Value-clause-bounded t c =
@@ -620,7 +586,6 @@ value_of-returns-in-Value-clause-bounded t c =
     let same : pos c.in-Value.index ≡ to_z w64 (of_z w64 c.from-in-Value.result) = omega (arith, ints, c.from-in-Value.ensures) in
     subst Q (sym c.in-Value.is) (value_within w c.in-Value.field-0 c.in-Value.index e fits vs y (sym (same ∙ same_Some (to_z w64 (of_z w64 c.from-in-Value.result)) y is)))
 
-
 pub value_of-value_of-requires : goal.value_of-value_of-requires
 value_of-value_of-requires t c =
     let spec = c.args.spec.now in
@@ -633,7 +598,6 @@ value_of-value_of-requires t c =
     let factor = c.in-Times.factor in
     let fits = subst P c.in-Times.is c.requires.term_fits in
     (search (ints, rules, the_lemmas), (c.requires.table_fits, (subst P (sym c.get.ensures) (times_part w n factor e fits), c.requires.instant_in)))
-
 
 pub value_of-returns-in-None-clause-is : goal.value_of-returns-in-None-clause-is
 value_of-returns-in-None-clause-is t c =
@@ -648,7 +612,6 @@ value_of-returns-in-None-clause-is t c =
     let fits = subst P c.in-Times.is c.requires.term_fits in
     sym (ap (λ x. value w x e table i) c.in-Times.is ∙ value-Times w n factor e table i
     ∙ ap (option_map (λ z. pos n *ℤ z)) (ap (λ x. value w x e table i) (sym c.get.ensures) ∙ sym c.value_of.ensures.is ∙ c.in-None.is))
-
 
 pub value_of-overflow_mul-result : goal.value_of-overflow_mul-result
 value_of-overflow_mul-result t c =
@@ -672,7 +635,6 @@ value_of-overflow_mul-result t c =
     let a_is : a ≡ pos n = omega (arith, ints, c.from-in-Some.ensures) in
     let b_is = sym (passed z small) in
     product_fits a b z n a_is b_is bounded
-
 
 pub value_of-returns-in-Some-clause-is : goal.value_of-returns-in-Some-clause-is
 value_of-returns-in-Some-clause-is t c =
@@ -699,7 +661,6 @@ value_of-returns-in-Some-clause-is t c =
     ∙ ap (option_map (λ z. pos n *ℤ z)) (ap (λ x. value w x e table i) (sym c.get.ensures) ∙ sym c.value_of.ensures.is ∙ c.in-Some.is)
     ∙ ap Some (product_passed a b z n a_is b_is bounded))
 
-
 pub value_of-returns-in-Some-clause-bounded : goal.value_of-returns-in-Some-clause-bounded
 value_of-returns-in-Some-clause-bounded t c =
     let spec = c.args.spec.now in
@@ -725,4 +686,3 @@ value_of-returns-in-Some-clause-bounded t c =
     let Q : Term → Type 0 = λ x. IsWithin w x vs y in
     let same = product_passed a b z n a_is b_is bounded ∙ same_Some (to_z w64 (of_z w64 (a *ℤ b))) y is in
     subst Q (sym c.in-Times.is) (times_within w n factor vs z y (near vs are) (sym same))
-

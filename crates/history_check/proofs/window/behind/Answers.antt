@@ -1,5 +1,5 @@
 -- The answers to the goals of `behind`.
-use Rattle.std.proofs.Common.{◌≡◌, ℤ, pos, ◌+ℤ◌, ◌-ℤ◌, Some, to_z, of_z, w64, refl, sym, ap, ◌∙◌, arith}
+use Rattle.std.proofs.Common.{◌≡◌, pos, ◌+ℤ◌, ◌-ℤ◌, to_z, of_z, w64, ap, ◌∙◌, arith}
 use Rattle.std.proofs.lemmas.Int.{ints}
 use Rattle.trio_base.specs.declared.operators.Ends.TheVariants as ends
 use Rattle.trio_types.specs.Truth.{is_behind}

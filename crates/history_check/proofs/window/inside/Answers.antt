@@ -1,8 +1,8 @@
 -- The answers to the goals of `inside`.
-use Rattle.std.proofs.Common.{◌≡◌, ℤ, pos, ◌≤ℤ◌, nat_abs, to_z, of_z, w64, ap, ◌∙◌, arith}
+use Rattle.std.proofs.Common.{◌≡◌, pos, ◌≤ℤ◌, nat_abs, to_z, of_z, w64, ap, ◌∙◌, arith}
 use Rattle.std.specs.Int.{int_max, int_min}
 use Rattle.std.proofs.lemmas.Int.{ints}
-use Rattle.history_check.proofs.Windows.{kept, kept_window, absolute}
+use Rattle.history_check.proofs.Windows.{kept_window, absolute}
 use Rattle.history_check.proofs.window.inside.Goals as goal
 
 pub returns : goal.returns

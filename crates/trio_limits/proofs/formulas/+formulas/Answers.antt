@@ -1,8 +1,8 @@
 -- The answers to the goals of the counts of formulas.
 use Rattle.std.proofs.Common.{ap, ◌∙◌}
 use Rattle.trio_limits.specs.Ground.{world_of_ground}
-use Rattle.trio_limits.specs.Counting.{term_counts_of, counts_of, formulas_of}
-use Rattle.trio_limits.proofs.FormulaCounts.{counts-Lone, counts-Compare, counts-Not, counts-And, counts-Or, counts-joined, counts-Implies, counts-Iff, counts-All, counts-Ex, counts-quantified, counts-One, counts-Far, counts-Pair, formulas_next}
+use Rattle.trio_limits.specs.Counting.{term_counts_of, counts_of}
+use Rattle.trio_limits.proofs.FormulaCounts.{counts-Lone, counts-Compare, counts-Not, counts-And, counts-Or, counts-Implies, counts-Iff, counts-All, counts-Ex, counts-One, counts-Far, counts-Pair, formulas_next}
 use Rattle.trio_limits.proofs.formulas.+formulas.Goals as goal
 
 pub counts_of-returns-in-Lone-clause-made : goal.counts_of-returns-in-Lone-clause-made
@@ -79,9 +79,10 @@ counts_of-returns-in_ok-second-in-Pair-clause-made t c =
     c.max-in-Pair-2.ensures c.saturating_add-in-Pair.ensures)
 
 pub all_counts-loop-formula-preserved : goal.all_counts-loop-formula-preserved
-all_counts-loop-formula-preserved t c =
-    (c.in_ok-more.ensures.kept ∙ c.loop-formula.invariant.0,
-    formulas_next (world_of_ground c.args.ground.now) c.args.variables.now.items c.args.formulas.now c.loop-formula.formula-index c.formula-item.result c.loop-formula-test.true
-    c.formula-item.is c.loop-formula.counts c.loop-formula.invariant.1 c.in_ok-more.more
-    (c.in_ok-more.ensures.made ∙ ap (λ vs. counts_of (world_of_ground c.args.ground.now) vs c.formula-item.result) c.loop-formula.invariant.0)
-    c.max.result c.saturating_add.result c.max-in-loop-formula.result c.max.ensures c.saturating_add.ensures c.max-in-loop-formula.ensures)
+all_counts-loop-formula-preserved t c = (
+  c.in_ok-more.ensures.kept ∙ c.loop-formula.invariant.0,
+  formulas_next (world_of_ground c.args.ground.now) c.args.variables.now.items c.args.formulas.now c.loop-formula.formula-index c.formula-item.result c.loop-formula-test.true
+      c.formula-item.is c.loop-formula.counts c.loop-formula.invariant.1 c.in_ok-more.more
+      (c.in_ok-more.ensures.made ∙ ap (λ vs. counts_of (world_of_ground c.args.ground.now) vs c.formula-item.result) c.loop-formula.invariant.0)
+      c.max.result c.saturating_add.result c.max-in-loop-formula.result c.max.ensures c.saturating_add.ensures c.max-in-loop-formula.ensures,
+)

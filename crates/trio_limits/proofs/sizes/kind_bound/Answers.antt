@@ -1,7 +1,7 @@
 -- The answers to the goals of `kind_bound`.
-use Rattle.std.proofs.Common.{◌≡◌, ◌≤◌, ◌-◌, suc, ℤ, pos, ◌+ℤ◌, ◌-ℤ◌, nat_abs, to_z, of_z, w64, max, length, map, sym, ap, ◌∙◌, arith}
+use Rattle.std.proofs.Common.{◌≡◌, pos, nat_abs, to_z, of_z, w64, max, length, map, sym, ap, ◌∙◌, arith}
 use Rattle.std.proofs.lemmas.Int.{ints}
-use Rattle.trio_types.specs.World.{integers, at_least_zero, values_of}
+use Rattle.trio_types.specs.World.{values_of}
 use Rattle.trio_types.specs.WellFormed.{values_fit}
 use Rattle.trio_types.specs.Bounds.{greatest}
 use Rattle.trio_types.proofs.Domains.{length-integers}
@@ -28,5 +28,9 @@ returns-in-Range c =
 pub returns-in-Words : goal.returns-in-Words
 returns-in-Words c =
     rw c.len.ensures (sym (ap (λ k. greatest (map nat_abs (values_of k))) c.in-Words.is
-    ∙ greatest_of_words (length c.in-Words.words) (omega (arith, (some_values c.args.kind.now c.requires).0, ap (λ k. length (values_of k)) c.in-Words.is,
-    length-integers (pos 0) (length c.in-Words.words)))))
+    ∙ greatest_of_words (length c.in-Words.words) (omega (
+      arith,
+      (some_values c.args.kind.now c.requires).0,
+      ap (λ k. length (values_of k)) c.in-Words.is,
+      length-integers (pos 0) (length c.in-Words.words),
+    ))))

@@ -1,5 +1,5 @@
 -- The answers to the goals of `kind_size`.
-use Rattle.std.proofs.Common.{◌≡◌, ℤ, pos, ◌+ℤ◌, ◌-ℤ◌, w64, to_z, of_z, nat_abs, length, sym, ap, ◌∙◌, arith}
+use Rattle.std.proofs.Common.{◌≡◌, pos, ◌+ℤ◌, ◌-ℤ◌, w64, to_z, of_z, nat_abs, length, sym, ap, ◌∙◌, arith}
 use Rattle.std.proofs.lemmas.Int.{ints}
 use Rattle.trio_types.specs.World.{integers, at_least_zero, values_of}
 use Rattle.trio_types.specs.WellFormed.{values_fit}
@@ -22,7 +22,7 @@ returns-in-Range-clause-is c =
     let difference = to_z w64 (of_z w64 (to_z w64 (of_z w64 c.in-Range.high) -ℤ to_z w64 (of_z w64 c.in-Range.low))) in
     let number = to_z w64 (of_z w64 (difference +ℤ pos 1)) in
     let is : number ≡ pos (length (integers c.in-Range.low (at_least_zero ((c.in-Range.high +ℤ pos 1) -ℤ c.in-Range.low)))) =
-        omega (arith, ints, r.not_far_back, r.not_far_on, r.count, r.some, r.few) in
+    omega (arith, ints, r.not_far_back, r.not_far_on, r.count, r.some, r.few) in
     ap nat_abs is ∙ sym (ap (λ k. length (values_of k)) c.in-Range.is)
 
 pub returns-in-Range-clause-few : goal.returns-in-Range-clause-few
@@ -31,7 +31,7 @@ returns-in-Range-clause-few c =
     let difference = to_z w64 (of_z w64 (to_z w64 (of_z w64 c.in-Range.high) -ℤ to_z w64 (of_z w64 c.in-Range.low))) in
     let number = to_z w64 (of_z w64 (difference +ℤ pos 1)) in
     let is : number ≡ pos (length (integers c.in-Range.low (at_least_zero ((c.in-Range.high +ℤ pos 1) -ℤ c.in-Range.low)))) =
-        omega (arith, ints, r.not_far_back, r.not_far_on, r.count, r.some, r.few) in
+    omega (arith, ints, r.not_far_back, r.not_far_on, r.count, r.some, r.few) in
     omega (arith, ap nat_abs is, r.few)
 
 pub returns-in-Words-clause-is : goal.returns-in-Words-clause-is

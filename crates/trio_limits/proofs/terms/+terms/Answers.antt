@@ -1,6 +1,5 @@
 -- The answers to the goals of the counts of terms.
-use Rattle.std.proofs.Common.{◌*◌, ap, sym, ◌∙◌, arith}
-use Rattle.trio_types.specs.declared.formula.SignedTerm.{SignedTerm, out-SignedTerm}
+use Rattle.std.proofs.Common.{◌*◌, ap, ◌∙◌, arith}
 use Rattle.trio_limits.specs.Given.{given_count}
 use Rattle.trio_limits.specs.Ground.{world_of_ground}
 use Rattle.trio_limits.specs.Counting.{leaf, arguments_of, parts_of, term_counts_of}

@@ -1,7 +1,6 @@
 -- The answers to the goals of `first_value`.
-use Rattle.std.proofs.Common.{◌≡◌, ℤ, pos, Some, slice_get, to_z, of_z, w64, ap, sym, ◌∙◌, arith}
+use Rattle.std.proofs.Common.{◌≡◌, Some, to_z, of_z, w64, ap, ◌∙◌, arith}
 use Rattle.std.proofs.lemmas.Int.{ints}
-use Rattle.trio_types.specs.World.{values_in}
 use Rattle.trio_types.specs.Verdict.{parts_of}
 use Rattle.trio_types.proofs.Domains.{first_of}
 use Rattle.trio_types.proofs.Specs.{formed, first_at_zero, range_fits}

@@ -1,5 +1,5 @@
 -- The answers to the goals of `index_of`.
-use Rattle.std.proofs.Common.{◌≡◌, ◌<◌, ◌≤◌, ℤ, pos, negsuc, ◌+ℤ◌, ◌-ℤ◌, ◌≤ℤ◌, nat_abs, Some, slice_get, to_z, of_z, w64, refl, sym, arith}
+use Rattle.std.proofs.Common.{◌≡◌, ◌<◌, ℤ, pos, negsuc, ◌+ℤ◌, ◌-ℤ◌, ◌≤ℤ◌, nat_abs, to_z, of_z, w64, refl, sym, arith}
 use Rattle.std.proofs.lemmas.Int.{ints}
 use Rattle.trio_types.specs.World.{size_of}
 use Rattle.trio_types.specs.Verdict.{parts_of}

@@ -1,7 +1,6 @@
 -- The answers to the goals of `value_at`.
-use Rattle.std.proofs.Common.{◌≡◌, ◌<◌, ◌≤◌, ℤ, pos, ◌+ℤ◌, Some, slice_get, to_z, of_z, w64, ap, sym, ◌∙◌, arith}
+use Rattle.std.proofs.Common.{◌≡◌, pos, ◌+ℤ◌, Some, to_z, of_z, w64, ap, ◌∙◌, arith}
 use Rattle.std.proofs.lemmas.Int.{ints}
-use Rattle.trio_types.specs.World.{size_of}
 use Rattle.trio_types.specs.Verdict.{parts_of}
 use Rattle.trio_types.proofs.Lists.{get_within}
 use Rattle.trio_types.proofs.Specs.{formed, first_fits, value_from_first}
