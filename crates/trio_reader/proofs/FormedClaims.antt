@@ -1,5 +1,5 @@
 -- What holds of the axioms and the goals, from what holds of the claims of a tree; the limits and the instants.
-use Rattle.std.proofs.Common.{◌≡◌, ℕ, Bool, true, false, ◌&&◌, cond, if◌then◌else◌, nat_lt, nat_le, List, [], ◌∷◌, ◌++◌, map, filter, find, length, Option, None, Some, refl, sym, ap, ◌∙◌}
+use Rattle.std.proofs.Common.{◌≡◌, ℕ, Bool, true, false, cond, if◌then◌else◌, nat_lt, nat_le, List, [], ◌∷◌, ◌++◌, map, filter, find, Option, None, Some, refl, ◌∙◌}
 use Rattle.std.specs.List.{list_all, flat_map}
 use Rattle.std.specs.Option.{option_map}
 use Rattle.std.proofs.lemmas.Bool.{and_parts, and_from, ltb-false, le-leb}
@@ -23,7 +23,7 @@ use Rattle.trio_scope.specs.Places.{least, unless}
 use Rattle.trio_scope.specs.Names.{domains_in}
 use Rattle.trio_reader.specs.Erasure.{is_wanted, axiom_from, claims_from, values_kind, domain_from, parts_of_tree}
 use Rattle.trio_reader.specs.Ranges.{if_large, at_places, out_of_range}
-use Rattle.trio_reader.proofs.FormedPhases.{append_empty, unless_empty}
+use Rattle.trio_reader.proofs.FormedPhases.{append_empty, unless_empty, none_mapped}
 use Rattle.trio_reader.proofs.FormedDomains.{in_range}
 
 -- what passes, whatever else is left out
@@ -96,10 +96,6 @@ none_above parts (w ∷ ws) none =
     let both = none_found (nat_lt (limit_of w) (count_of w parts)) w (find (λ w. nat_lt (limit_of w) (count_of w parts)) ws) none in
     and_from (nat_le (count_of w parts) (limit_of w)) (list_all (λ w. nat_le (count_of w parts) (limit_of w)) ws)
     (le-leb (count_of w parts) (limit_of w) (ltb-false (limit_of w) (count_of w parts) both.0)) (none_above parts ws both.1)
-
-none_mapped : {A B : Type 0} (f : A → B) (r : Option A) → option_map f r ≡ None → r ≡ None
-none_mapped f None is = refl
-none_mapped f (Some x) is = cc
 
 pub limits_are_met_from_counts : (parts : Parts) → count_fault parts ≡ None → limits_are_met parts ≡ true
 unfolding count_fault

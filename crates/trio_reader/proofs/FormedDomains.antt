@@ -1,5 +1,5 @@
 -- Where nothing is out of range, the domains and the items fit, and the instants do.
-use Rattle.std.proofs.Common.{◌≡◌, ℕ, zero, suc, ◌+◌, ◌<◌, ◌≤◌, ℤ, pos, negsuc, neg_ℤ, ◌+ℤ◌, ◌-ℤ◌, ◌≤ℤ◌, Bool, true, false, ◌&&◌, if◌then◌else◌, nat_lt, nat_le, List, [], ◌∷◌, ◌++◌, map, length, take, drop, Option, None, Some, refl, sym, ap, ◌∙◌, arith}
+use Rattle.std.proofs.Common.{◌≡◌, ℕ, zero, suc, ◌<◌, ◌≤◌, ℤ, pos, negsuc, neg_ℤ, ◌+ℤ◌, ◌-ℤ◌, ◌≤ℤ◌, Bool, true, false, ◌&&◌, if◌then◌else◌, nat_lt, nat_le, List, [], ◌∷◌, map, length, take, drop, None, refl, ap, ◌∙◌, arith}
 use Rattle.std.specs.Prelude.{int_le}
 use Rattle.std.specs.List.{list_all, flat_map}
 use Rattle.std.proofs.lemmas.Bool.{and_parts, and_from, leb-true, lt-ltb, le-leb}
@@ -9,8 +9,8 @@ use Rattle.trio_base.specs.declared.limits.TheConstants.{MOST_INSTANTS, MOST_VAL
 use Rattle.trio_types.specs.declared.spec.DomainKind.TheVariants as kind
 use Rattle.trio_types.specs.declared.spec.Domain.{Domain}
 use Rattle.trio_types.specs.declared.spec.Item.{Item}
-use Rattle.trio_types.specs.World.{integers, at_least_zero, values_of}
-use Rattle.trio_types.specs.WellFormed.{has_instants, has_bool, is_written, values_fit, domains_fit, items_fit}
+use Rattle.trio_types.specs.World.{integers, at_least_zero}
+use Rattle.trio_types.specs.WellFormed.{has_instants, is_written, values_fit, domains_fit, items_fit}
 use Rattle.trio_types.proofs.Integers.{Decides-int_le}
 use Rattle.trio_types.proofs.Domains.{length-integers}
 use Rattle.trio_syntax.specs.declared.tree.Mention.{Mention}

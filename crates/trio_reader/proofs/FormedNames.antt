@@ -1,5 +1,5 @@
 -- What a tree declares and what its parts declare are the same names as often, and names are names.
-use Rattle.std.proofs.Common.{◌≡◌, ℕ, ◌+◌, ◌≤◌, Bool, true, false, not, ◌&&◌, ◌||◌, nat_lt, if◌then◌else◌, List, [], ◌∷◌, ◌++◌, map, filter, Option, None, refl, sym, ap, ◌∙◌, ⊎_elim, append_assoc, arith}
+use Rattle.std.proofs.Common.{◌≡◌, ℕ, ◌+◌, ◌≤◌, Bool, true, false, not, ◌&&◌, ◌||◌, nat_lt, if◌then◌else◌, List, [], ◌∷◌, ◌++◌, map, filter, None, refl, sym, ap, ◌∙◌, ⊎_elim, arith}
 use Rattle.std.specs.List.{list_all, list_any, flat_map}
 use Rattle.std.specs.Str.{bytes_eq}
 use Rattle.std.proofs.lemmas.Bool.{and_parts, and_from, or_parts, not-true, not_from_false, cases_Bool, lt-ltb, le-ltb, ltb-false}
@@ -25,7 +25,7 @@ use Rattle.trio_scope.specs.Places.{least, unless}
 use Rattle.trio_scope.specs.Names.{Declaration, declaration, words_from, words_of, declared_from, declarations, domains_in, items_in, is_declared, repeated_behind}
 use Rattle.trio_scope.specs.Gather.{places_in_claims}
 use Rattle.trio_scope.specs.Scope.{twice_finding, repeated_places}
-use Rattle.trio_reader.specs.Erasure.{values_kind, domain_from, item_from, axiom_from, is_wanted, claims_from, formula_of, parts_of_tree}
+use Rattle.trio_reader.specs.Erasure.{values_kind, domain_from, item_from, axiom_from, is_wanted, claims_from, parts_of_tree}
 use Rattle.trio_reader.proofs.FormedPhases.{append_empty, unless_empty, least_none}
 use Rattle.trio_reader.proofs.FormedNumbers.{flat_all}
 use Rattle.trio_reader.proofs.FormedClaims.{claims_pass}
@@ -71,10 +71,10 @@ distinct_once (x ∷ xs) is name =
     let both = and_parts (not (list_any (bytes_eq x) xs)) (are_distinct xs) is in
     let none = no_time x xs (not-true (list_any (bytes_eq x) xs) both.0) in
     let before = distinct_once xs both.1 name in ⊎_elim
-      (λ same. let e : one_if (bytes_eq name x) ≡ 1 = ap one_if same in
-      let here : times name xs ≡ 0 = ap (λ n. times n xs) ((bytes_eq-Decides name x).0 same) ∙ none in omega arith)
-      (λ other. let e : one_if (bytes_eq name x) ≡ 0 = ap one_if other in omega arith)
-      (cases_Bool (bytes_eq name x))
+    (λ same. let e : one_if (bytes_eq name x) ≡ 1 = ap one_if same in
+    let here : times name xs ≡ 0 = ap (λ n. times n xs) ((bytes_eq-Decides name x).0 same) ∙ none in omega arith)
+    (λ other. let e : one_if (bytes_eq name x) ≡ 0 = ap one_if other in omega arith)
+    (cases_Bool (bytes_eq name x))
 
 once_distinct : (names : List (List ℕ)) → ((name : List ℕ) → times name names ≤ 1) → are_distinct names ≡ true
 unfolding times
@@ -120,10 +120,10 @@ module _ (tree : SpecTree) where
   statements_same name domains items (statement.Domain d ∷ rest) =
       let before = statements_same name (domains + 1) items rest in
       let first : times name (names_of (words_of domains d.values ++ declared_from (domains + 1) items rest))
-          ≡ times name (words_of_kind (values_kind d.values)) + times name (names_of (declared_from (domains + 1) items rest)) =
-          ap (times name) (names_of-append (words_of domains d.values) (declared_from (domains + 1) items rest)
-          ∙ ap (λ ns. ns ++ names_of (declared_from (domains + 1) items rest)) (words_names domains d.values))
-          ∙ times-append name (words_of_kind (values_kind d.values)) (names_of (declared_from (domains + 1) items rest)) in
+      ≡ times name (words_of_kind (values_kind d.values)) + times name (names_of (declared_from (domains + 1) items rest)) =
+      ap (times name) (names_of-append (words_of domains d.values) (declared_from (domains + 1) items rest)
+      ∙ ap (λ ns. ns ++ names_of (declared_from (domains + 1) items rest)) (words_names domains d.values))
+      ∙ times-append name (words_of_kind (values_kind d.values)) (names_of (declared_from (domains + 1) items rest)) in
       let second = times-append name (words_of_kind (values_kind d.values)) (domain_names rest) in
       omega arith
   statements_same name domains items (statement.Item i ∷ rest) =
@@ -156,7 +156,7 @@ module _ (tree : SpecTree) where
       let claimed = map (λ (c : ClaimTree). declaration c.name meaning.Claim) tree.claims in
       let stated = declared_from 1 0 tree.declarations in
       let a = times-append name (domain_names tree.declarations ++ item_names tree.declarations)
-          (map (λ (a : Axiom). a.name) (claims_from tree false tree.claims ++ claims_from tree true tree.claims)) in
+      (map (λ (a : Axiom). a.name) (claims_from tree false tree.claims ++ claims_from tree true tree.claims)) in
       let b = times-append name (domain_names tree.declarations) (item_names tree.declarations) in
       let c = ap (times name) (map-append (λ (a : Axiom). a.name) (claims_from tree false tree.claims) (claims_from tree true tree.claims)) in
       let d = times-append name (claim_names false tree.claims) (claim_names true tree.claims) in
@@ -176,7 +176,7 @@ none_equal front x [] is = (refl, refl)
 none_equal front x (d ∷ ds) is =
     let p = and_parts (not (is_declared (front ++ x ∷ []) d.name)) (list_all (λ d. not (is_declared (front ++ x ∷ []) d.name)) ds) is in
     let q = or_parts (is_declared front d.name) (is_declared (x ∷ []) d.name)
-        (sym (list_any-append (λ (other : Declaration). bytes_eq other.name d.name) front (x ∷ [])) ∙ not-true (is_declared (front ++ x ∷ []) d.name) p.0) in
+    (sym (list_any-append (λ (other : Declaration). bytes_eq other.name d.name) front (x ∷ [])) ∙ not-true (is_declared (front ++ x ∷ []) d.name) p.0) in
     let r = none_equal front x ds p.1 in (
       rw ((or_parts (bytes_eq x.name d.name) false q.1).0, r.0) refl,
       and_from (not (is_declared front d.name)) (list_all (λ d. not (is_declared front d.name)) ds) (ap not q.0) r.1,

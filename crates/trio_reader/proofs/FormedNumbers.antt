@@ -28,7 +28,7 @@ use Rattle.trio_scope.specs.Gather.{Variable, places_in, places_in_term, places_
 use Rattle.trio_scope.proofs.Gathers.{in-term, in-Call, in-Sum, in-Times, in-Lone, in-Compare, in-Not, in-And, in-Or, in-Implies, in-Iff, in-Quantified, in-One, in-Far, in-Pair}
 use Rattle.trio_reader.specs.declared.sense.Sense.{Sense}
 use Rattle.trio_reader.specs.declared.sense.Sense.TheVariants as sense
-use Rattle.trio_reader.specs.Erasure.{shape_of, term_of, part_from, sense_of, sense_term, formula_of, quantified, domain_of, axiom_from, parts_of_tree}
+use Rattle.trio_reader.specs.Erasure.{shape_of, term_of, part_from, sense_of, sense_term, formula_of, quantified, domain_of, parts_of_tree}
 use Rattle.trio_reader.specs.Ranges.{if_large, own_numbers, range_finding, out_of_range}
 use Rattle.trio_reader.proofs.Erased.{term-shape, shape-Number, shape-Truth, shape-Named, shape-Call, shape-Sum, shape-Times, formula-Lone, formula-Compare, formula-Not, formula-And, formula-Or, formula-Implies, formula-Iff, formula-Quantified, formula-One, formula-Far, formula-Pair}
 use Rattle.trio_reader.proofs.FormedPhases.{append_empty, unless_empty}

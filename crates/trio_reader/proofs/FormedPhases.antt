@@ -29,7 +29,7 @@ pub least_none : (ps : List ℕ) → least ps ≡ None → ps ≡ []
 least_none [] is = refl
 least_none (p ∷ ps) is = absurd (least_some p (least ps) is)
 
-none_mapped : {A B : Type 0} (f : A → B) (r : Option A) → option_map f r ≡ None → r ≡ None
+pub none_mapped : {A B : Type 0} (f : A → B) (r : Option A) → option_map f r ≡ None → r ≡ None
 none_mapped f None is = refl
 none_mapped f (Some x) is = cc
 

@@ -1,12 +1,12 @@
 -- What a tree that has the form stands for: sums, conjunctions and disjunctions have parts, and names are names.
-use Rattle.std.proofs.Common.{◌≡◌, ℕ, Bool, true, false, ◌&&◌, nat_le, if◌then◌else◌, List, [], ◌∷◌, ◌++◌, map, length, refl, sym, ap, ◌∙◌}
+use Rattle.std.proofs.Common.{◌≡◌, ℕ, Bool, true, ◌&&◌, nat_le, if◌then◌else◌, List, [], ◌∷◌, ◌++◌, map, length, refl, sym, ap, ◌∙◌}
 use Rattle.std.specs.List.{list_all, flat_map}
 use Rattle.std.proofs.lemmas.Bool.{and_parts, and_from}
 use Rattle.std.proofs.lemmas.List.Folds.{list_all-append, list_all-map}
 use Rattle.trio_base.specs.Names.{is_name}
 use Rattle.trio_types.specs.declared.spec.Axiom.{Axiom}
 use Rattle.trio_types.specs.declared.formula.Term.{Term}
-use Rattle.trio_types.specs.declared.formula.SignedTerm.{SignedTerm, SignedTerm-F, out-SignedTerm, out-roll-SignedTerm}
+use Rattle.trio_types.specs.declared.formula.SignedTerm.{SignedTerm, SignedTerm-F, out-roll-SignedTerm}
 use Rattle.trio_types.specs.declared.formula.Formula.{Formula}
 use Rattle.trio_types.specs.Names.{variables_of}
 use Rattle.trio_types.specs.Shape.{SignedShape, makes_sum, two_or_more, term_is_shaped, is_shaped}
@@ -15,8 +15,6 @@ use Rattle.trio_types.proofs.ShapeAt.{shape_of_part, term_is_shaped-Number, term
 use Rattle.trio_types.proofs.NamesAt.{variables_of-Lone, variables_of-Compare, variables_of-Not, variables_of-And, variables_of-Or, variables_of-Implies, variables_of-Iff, variables_of-All, variables_of-Ex, variables_of-One, variables_of-Far, variables_of-Pair}
 use Rattle.trio_syntax.specs.declared.tree.Quantifier.{Quantifier}
 use Rattle.trio_syntax.specs.declared.tree.Quantifier.TheVariants as quantifier
-use Rattle.trio_syntax.specs.declared.tree.Mention.{Mention}
-use Rattle.trio_syntax.specs.declared.tree.RefTree.{RefTree}
 use Rattle.trio_syntax.specs.declared.tree.TermTree.{TermTree, out-TermTree, fold_out-TermTree}
 use Rattle.trio_syntax.specs.declared.tree.TermShape.{TermShape, TermShape-F, roll-TermShape, map-TermShape, fold-TermShape, fold-roll-TermShape}
 use Rattle.trio_syntax.specs.declared.tree.TermShape.TheOpen as open_shape
@@ -28,14 +26,13 @@ use Rattle.trio_syntax.specs.declared.tree.FormulaTree.TheOpen.{FormulaTree-F}
 use Rattle.trio_syntax.specs.declared.tree.FormulaTree.TheOpen as open_formula
 use Rattle.trio_syntax.specs.declared.tree.FormulaTree.TheFolds.{fold-roll-FormulaTree, map-FormulaTree}
 use Rattle.trio_syntax.specs.declared.tree.FormulaTree.TheViews.{roll-FormulaTree}
-use Rattle.trio_syntax.specs.declared.tree.DeclarationTree.{DeclarationTree}
 use Rattle.trio_syntax.specs.declared.tree.ClaimTree.{ClaimTree}
 use Rattle.trio_syntax.specs.declared.tree.SpecTree.{SpecTree}
 use Rattle.trio_syntax.specs.Shape.{names_a_name, some_all, two_all, Part, is_sum, shape_is_formed, part_formed, term_formed, term_is_formed, ref_is_formed, node_is_formed, formula_is_formed, declaration_is_formed, claim_is_formed, is_formed}
 use Rattle.trio_scope.specs.Gather.{Variable}
 use Rattle.trio_reader.specs.declared.sense.Sense.{Sense}
 use Rattle.trio_reader.specs.declared.sense.Sense.TheVariants as sense
-use Rattle.trio_reader.specs.Erasure.{shape_of, term_of, part_from, sense_of, sense_term, formula_of, quantified, domain_of, axiom_from, parts_of_tree}
+use Rattle.trio_reader.specs.Erasure.{shape_of, term_of, part_from, sense_of, sense_term, formula_of, quantified, domain_of, parts_of_tree}
 use Rattle.trio_reader.proofs.Erased.{map-map, term-shape, shape-Number, shape-Truth, shape-Named, shape-Call, shape-Sum, shape-Times, formula-Lone, formula-Compare, formula-Not, formula-And, formula-Or, formula-Implies, formula-Iff, formula-Quantified, formula-One, formula-Far, formula-Pair}
 use Rattle.trio_reader.proofs.FormedCases.{Each, each_passes, FormulaCases, every_formula, TermCases, every_shape, term_in}
 use Rattle.trio_reader.proofs.FormedNumbers.{flat_all_of}

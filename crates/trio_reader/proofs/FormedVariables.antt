@@ -16,7 +16,7 @@ use Rattle.trio_syntax.specs.declared.tree.ClaimTree.{ClaimTree}
 use Rattle.trio_syntax.specs.declared.tree.SpecTree.{SpecTree}
 use Rattle.trio_scope.specs.declared.walk.Role.TheVariants as role
 use Rattle.trio_scope.specs.Places.{least, unless}
-use Rattle.trio_scope.specs.Names.{Declaration, declarations, is_declared}
+use Rattle.trio_scope.specs.Names.{declarations, is_declared}
 use Rattle.trio_scope.specs.Gather.{Variable, Finding, places_in, places_in_term}
 use Rattle.trio_scope.specs.Scope.{is_variable, twice_finding, repeated_places}
 use Rattle.trio_scope.proofs.Gathers.{in-Not, in-And, in-Or, in-Implies, in-Iff, in-Quantified, in-One, in-Far, in-Pair}
