@@ -2,3 +2,13 @@ pub mod Erased
 pub mod KindLemmas
 pub mod RangeLemmas
 pub mod Phases
+pub mod FormedPhases
+pub mod FormedTerms
+pub mod FormedKinds
+pub mod FormedDomains
+pub mod FormedCases
+pub mod FormedClaims
+pub mod FormedNumbers
+pub mod FormedShape
+pub mod FormedNames
+pub mod FormedVariables
