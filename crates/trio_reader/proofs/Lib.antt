@@ -12,3 +12,7 @@ pub mod FormedNumbers
 pub mod FormedShape
 pub mod FormedNames
 pub mod FormedVariables
+pub mod Texts
+pub mod WellFormed
+pub mod Made
+pub mod Answered

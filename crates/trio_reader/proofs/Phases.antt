@@ -1,5 +1,5 @@
 -- The first fault of a tree is that of the first phase that finds one.
-use Rattle.std.proofs.Common.{◌≡◌, ℕ, Option, None, Some, refl, ◌∙◌}
+use Rattle.std.proofs.Common.{◌≡◌, ℕ, Option, None, Some, ap, sym, ◌∙◌}
 use Rattle.std.specs.Option.{option_map}
 use Rattle.trio_types.specs.declared.spec.Which.{Which}
 use Rattle.trio_syntax.specs.declared.tree.SpecTree.{SpecTree}
@@ -51,6 +51,14 @@ pub record IsRanged (tree : SpecTree) : Type 0 where
   pub named : IsNamed tree
   pub kinds : least (kind_places tree) ≡ None
   pub ranges : least (out_of_range tree) ≡ None
+
+pub is_ranged : (tree at : SpecTree) → at ≡ tree → least (unknown_places tree) ≡ None → least (repeated_places tree) ≡ None → least (kind_places at) ≡ None →
+    least (out_of_range tree) ≡ None → IsRanged tree
+is_ranged tree at same known once kinds ranges = record {
+  named = record { known = known; once = once };
+  kinds = ap (λ t. least (kind_places t)) (sym same) ∙ kinds;
+  ranges = ranges;
+}
 
 pub limit_is : (tree : SpecTree) (found : Option (Which × ℕ)) → IsRanged tree → count_fault (parts_of_tree tree) ≡ found →
     tree_fault tree ≡ option_map (λ c. fault.Limit c.0 c.1) found

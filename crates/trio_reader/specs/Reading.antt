@@ -58,7 +58,7 @@ pub record IsTreeText (text : List ℕ) (tree : SpecTree) : Type 0 where
 pub record IsSpecText (text : List ℕ) (spec : Spec) : Type 0 where
   pub tree : SpecTree
   pub read : IsTreeText text tree
-  pub spec : IsSpecOf tree spec
+  pub answer : IsSpecOf tree spec
 
 -- the text has this first fault
 abbrev pub HasFault : List ℕ → SpecFault → Type 0

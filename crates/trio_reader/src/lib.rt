@@ -11,6 +11,8 @@ mod lookup;
 mod ranges;
 mod reading;
 mod sense;
+#[cfg(test)]
+mod tests;
 mod world;
 
 pub use fault::SpecFault;
