@@ -94,7 +94,7 @@ domain-at tree around level =
     ∙ slice_get-map (λ (b : Binder). domain_of tree b.domain.now) around level
 
 -- `false` and `true`
-truth-constant : (tree : SpecTree) (b : Bool) → kind_of_constant (world_of_tree tree) 0 (if b then 1 else 0) ≡ truth_value
+pub truth-constant : (tree : SpecTree) (b : Bool) → kind_of_constant (world_of_tree tree) 0 (if b then 1 else 0) ≡ truth_value
 unfolding parts_of_tree
 truth-constant tree true = rw length-integers refl
 truth-constant tree false = rw length-integers refl

@@ -1,5 +1,5 @@
 -- What texts and specifications have to do with each other.
-use Rattle.std.specs.Prelude.{◌≡◌, ◌≢◌, ℕ, List}
+use Rattle.std.specs.Prelude.{◌≡◌, ◌≢◌, ◌⊎◌, ℕ, List}
 use Rattle.trio_types.specs.declared.spec.Spec.{Spec}
 use Rattle.trio_types.specs.Verdict.{parts_of}
 use Rattle.trio_reader.specs.declared.fault.SpecFault.{SpecFault}
@@ -18,7 +18,7 @@ OneFault = (text : List ℕ) (f g : SpecFault) → f ≢ Memory → g ≢ Memory
 abbrev pub FaultyIsNone : Type 0
 FaultyIsNone = (text : List ℕ) (f : SpecFault) (spec : Spec) → f ≢ Memory → HasFault text f → IsSpecText text spec → ⊥
 
--- no text is neither a specification nor has a fault
-abbrev pub NoneHasNeither : Type 0
-NoneHasNeither =
-    (text : List ℕ) → ((spec : Spec) → IsSpecText text spec → ⊥) → ((f : SpecFault) → f ≢ Memory → HasFault text f → ⊥) → ⊥
+-- a text is a specification or has a fault
+abbrev pub SpecificationOrFault : Type 0
+SpecificationOrFault =
+    (text : List ℕ) → ((spec : Spec) × IsSpecText text spec) ⊎ ((f : SpecFault) × (f ≢ Memory) × HasFault text f)

@@ -33,6 +33,16 @@ tree_fault tree =
     (or_later (option_map fault.Range (least (out_of_range tree)))
     (option_map (λ c. fault.Limit c.0 c.1) (count_fault (parts_of_tree tree))))))
 
+-- the first fault of a tree, or want of memory
+abbrev pub IsTreeFault : SpecTree → SpecFault → Type 0
+IsTreeFault tree fault.Memory = Unit {0}
+IsTreeFault tree f = tree_fault tree ≡ Some f
+
+-- the tree has no fault and is this specification
+pub record IsSpecOf (tree : SpecTree) (spec : Spec) : Type 0 where
+  pub sound : tree_fault tree ≡ None
+  pub stands : parts_of spec ≡ parts_of_tree tree
+
 -- the text is a list of tokens in which at most 100 brackets are open at once
 pub record IsShallow (text : List ℕ) (tokens : List Token) : Type 0 where
   pub lexed : IsTokens text tokens
@@ -48,8 +58,7 @@ pub record IsTreeText (text : List ℕ) (tree : SpecTree) : Type 0 where
 pub record IsSpecText (text : List ℕ) (spec : Spec) : Type 0 where
   pub tree : SpecTree
   pub read : IsTreeText text tree
-  pub sound : tree_fault tree ≡ None
-  pub stands : parts_of spec ≡ parts_of_tree tree
+  pub answer : IsSpecOf tree spec
 
 -- the text has this first fault
 abbrev pub HasFault : List ℕ → SpecFault → Type 0

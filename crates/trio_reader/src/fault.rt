@@ -1,5 +1,6 @@
 //! Why a text is no specification.
 
+use std::alloc::AllocError;
 use thiserror::Error;
 use trio_types::Which;
 
@@ -35,4 +36,15 @@ pub enum SpecFault {
     /// Want of memory.
     #[error("out of memory")]
     Memory,
+}
+
+impl From<AllocError> for SpecFault {
+    ghost use Rattle.std.specs.Prelude.{◌≡◌};
+    ghost use Rattle.trio_reader.specs.declared.fault.SpecFault.TheVariants.{Memory};
+
+    ghost from_gives = { λ _ e. e ≡ Memory };
+
+    fn from(_error: AllocError) -> SpecFault {
+        SpecFault::Memory
+    }
 }

@@ -1,6 +1,6 @@
 //! What follows of the definitions alone.
 
-ghost use Rattle.trio_reader.specs.Laws.{OneSpecification, OneFault, FaultyIsNone, NoneHasNeither};
+ghost use Rattle.trio_reader.specs.Laws.{OneSpecification, OneFault, FaultyIsNone, SpecificationOrFault};
 
 /// A text is one specification at most.
 pub fn text_has_one_specification()
@@ -17,7 +17,7 @@ pub fn faulty_text_is_no_specification()
     ensures { FaultyIsNone }
 {}
 
-/// Every text is a specification or has a fault: none has neither.
+/// A text is a specification or has a fault.
 pub fn text_has_specification_or_fault()
-    ensures { NoneHasNeither }
+    ensures { SpecificationOrFault }
 {}

@@ -9,7 +9,10 @@ mod kinds;
 mod laws;
 mod lookup;
 mod ranges;
+mod reading;
 mod sense;
+#[cfg(test)]
+mod tests;
 mod world;
 
 pub use fault::SpecFault;
@@ -17,4 +20,5 @@ pub use laws::{
     faulty_text_is_no_specification, text_has_one_fault, text_has_one_specification,
     text_has_specification_or_fault,
 };
+pub use reading::read_spec;
 pub use trio_types::Which;

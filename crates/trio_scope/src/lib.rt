@@ -5,6 +5,8 @@ mod meaning;
 mod names;
 mod place;
 mod scope;
+#[cfg(test)]
+mod tests;
 mod twice;
 mod unknown;
 mod walk;

@@ -4,3 +4,4 @@ pub mod Longest
 pub mod Steps
 pub mod Spans
 pub mod Ascii
+pub mod Total

@@ -283,7 +283,7 @@ ends_line : (text : List ℕ) → Ends (λ b. not (b == 10)) text → EndsLine t
 ends_line [] ends = tt
 ends_line (b ∷ text) ends = (Decides-eqb b 10).0 (not_false _ ends)
 
-comment_front : (text behind : List ℕ) → text ≡ 47 ∷ 47 ∷ behind → IsComment (take_while (λ b. not (b == 10)) text)
+pub comment_front : (text behind : List ℕ) → text ≡ 47 ∷ 47 ∷ behind → IsComment (take_while (λ b. not (b == 10)) text)
 comment_front text behind is = record {
   line = take_while (λ b. not (b == 10)) behind;
   begins =

@@ -1,6 +1,6 @@
 //! What is true of the tokens of every text, each law the contract of a call that does nothing.
 
-ghost use Rattle.std.specs.Prelude.{◌≡◌, ◌≤◌, ℕ, true, List, length};
+ghost use Rattle.std.specs.Prelude.{◌≡◌, ◌≤◌, ◌⊎◌, ℕ, true, List, length};
 ghost use Rattle.std.specs.List.{list_all};
 ghost use Rattle.trio_text.specs.declared.token.Token.{Token};
 ghost use Rattle.trio_text.specs.Tokens.{IsTokens, IsLexFault};
@@ -16,6 +16,11 @@ pub fn text_is_one_list_of_tokens()
 pub fn text_has_one_fault()
     ensures one { (text : List ℕ) (place other : ℕ) → IsLexFault text place → IsLexFault text other → place ≡ other }
     ensures apart { (text : List ℕ) (place : ℕ) (tokens : List Token) → IsLexFault text place → IsTokens text tokens → ⊥ }
+{}
+
+/// A text is a list of tokens, or has a fault.
+pub fn text_has_tokens_or_a_fault()
+    ensures { (text : List ℕ) → ((tokens : List Token) × IsTokens text tokens) ⊎ ((place : ℕ) × IsLexFault text place) }
 {}
 
 /// The names among the lexemes of a text are names.

@@ -1,0 +1,9 @@
+pub mod Saturating
+pub mod Greatest
+pub mod DomainSizes
+pub mod TermCounts
+pub mod FormulaCounts
+pub mod FirstAbove
+pub mod CellSums
+pub mod ClaimCounts
+pub mod AllCounts
