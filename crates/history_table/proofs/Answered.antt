@@ -1,5 +1,5 @@
 -- From the lines of a text to its answer.
-use Rattle.std.proofs.Common.{◌≡◌, ◌≢◌, ◌⊎◌, inl, inr, ℕ, ◌+◌, List, [], ◌∷◌, ◌++◌, refl, sym, ap, ◌∙◌, true, false, Bool, not, ◌==◌, Option, None, Some, Result, Ok, Err, length, position, if◌then◌else◌, option_map, IfOk, subst}
+use Rattle.std.proofs.Common.{◌≡◌, ◌≢◌, ◌⊎◌, ⊎_elim, inl, inr, ℕ, ◌+◌, List, [], ◌∷◌, ◌++◌, refl, sym, ap, ◌∙◌, true, false, Bool, not, ◌==◌, Option, None, Some, Result, Ok, Err, length, position, if◌then◌else◌, option_map, IfOk, subst}
 use Rattle.std.proofs.lemmas.Option.{same_Some}
 use Rattle.trio_text.specs.declared.token.Token.{Token}
 use Rattle.trio_text.specs.declared.lexeme.Lexeme.{Lexeme}
@@ -13,7 +13,7 @@ use Rattle.history_table.specs.declared.line.Line.{Line}
 use Rattle.history_table.specs.declared.lines.Found.{Found}
 use Rattle.history_table.specs.Lines.{Numbered, Placed, lines_of, AreRead}
 use Rattle.history_table.specs.Rows.{named_row, is_outside}
-use Rattle.history_table.specs.History.{row_fault, read_fault, have_row, line_fault, lines_fault, first_of, history_of, if_sound, Says, IsHistoryAnswer, OneHistory}
+use Rattle.history_table.specs.History.{row_fault, read_fault, have_row, line_fault, lines_fault, first_of, given_of, missing_row, history_of, if_whole, if_sound, Says, IsGivenText, HasHistFault, IsHistoryAnswer, OneHistory, HistoryOrFault}
 use Rattle.history_table.specs.Fitting.{IsGiven}
 use Rattle.history_table.specs.Decoding.{line_of, lines_by, placed_of, AreFound, IsFault, joined, joined_of, has_row, IsJoined}
 use Rattle.history_table.proofs.Spellings.{reads_line, reads_once}
@@ -159,3 +159,34 @@ module _ (one_list : (text : List ℕ) (tokens others : List Token) → IsTokens
 
   pub one_history : OneHistory
   one_history w text a b some other x y = one_told w text a b (told w text a some x) (told w text b other y)
+
+of_line_text : (w : World) (text : List ℕ) (f : HistFault) → OfLine f → Says w text (Err f) → HasHistFault w text f
+unfolding OfLine
+of_line_text w text fault.Memory of is = absurd of
+of_line_text w text (fault.Lex place) of is = absurd of
+of_line_text w text (fault.MissingRow row) of is = absurd of
+of_line_text w text (fault.Syntax n) of is = is
+of_line_text w text (fault.UnknownRow n) of is = is
+of_line_text w text (fault.TwiceRow n) of is = is
+of_line_text w text (fault.Length n) of is = is
+of_line_text w text (fault.Value n k) of is = is
+
+-- the answer for a text's tokens
+of_tokens : (w : World) (text : List ℕ) (tokens : List Token) → IsTokens text tokens →
+    ((given : List (Option ℕ)) × IsGivenText w text given) ⊎ ((f : HistFault) × HasHistFault w text f)
+of_tokens w text tokens lexed = go (lines_fault w [] lines) refl
+  where
+    lines : List Placed
+    lines = placed_of (lines_of text tokens)
+
+    sound : lines_fault w [] lines ≡ None → (m : Option ℕ) → missing_row w lines ≡ m →
+        ((given : List (Option ℕ)) × IsGivenText w text given) ⊎ ((f : HistFault) × HasHistFault w text f)
+    sound none None e = inl (given_of w lines, says w text tokens (Ok (given_of w lines)) lexed (ap (if_sound w lines) none ∙ ap (if_whole w lines) e))
+    sound none (Some row) e = inr (fault.MissingRow row, says w text tokens (Err (fault.MissingRow row)) lexed (ap (if_sound w lines) none ∙ ap (if_whole w lines) e))
+
+    go : (o : Option HistFault) → lines_fault w [] lines ≡ o → ((given : List (Option ℕ)) × IsGivenText w text given) ⊎ ((f : HistFault) × HasHistFault w text f)
+    go None e = sound e (missing_row w lines) refl
+    go (Some f) e = inr (f, of_line_text w text f (of_lines w [] lines f e) (says w text tokens (Err f) lexed (ap (if_sound w lines) e)))
+
+pub history_or_fault : ((text : List ℕ) → ((tokens : List Token) × IsTokens text tokens) ⊎ ((place : ℕ) × IsLexFault text place)) → HistoryOrFault
+history_or_fault total w text = ⊎_elim (λ t. of_tokens w text t.0 t.1) (λ p. inr (fault.Lex p.0, p.1)) (total text)

@@ -1,5 +1,5 @@
 -- Which given history a text is, or its first fault.
-use Rattle.std.specs.Prelude.{◌≡◌, ◌≢◌, ℕ, ◌+◌, Bool, not, false, ◌==◌, if◌then◌else◌, List, [], ◌∷◌, ◌++◌, length, map, find, position, Option, None, Some, Result, Ok, Err}
+use Rattle.std.specs.Prelude.{◌≡◌, ◌≢◌, ◌⊎◌, ℕ, ◌+◌, Bool, not, false, ◌==◌, if◌then◌else◌, List, [], ◌∷◌, ◌++◌, length, map, find, position, Option, None, Some, Result, Ok, Err}
 use Rattle.std.specs.List.{list_any, flat_map}
 use Rattle.std.specs.Option.{option_map, option_and_then}
 use Rattle.trio_text.specs.declared.token.Token.{Token}
@@ -106,3 +106,7 @@ IsHistoryAnswer world text (Err f) = HasHistFault world text f
 abbrev pub OneHistory : Type 0
 OneHistory = (world : World) (text : List ℕ) (a b : Result (List (Option ℕ)) HistFault) → a ≢ Err fault.Memory → b ≢ Err fault.Memory →
     IsHistoryAnswer world text a → IsHistoryAnswer world text b → a ≡ b
+
+-- every text is a given history of the specification, or has a fault
+abbrev pub HistoryOrFault : Type 0
+HistoryOrFault = (world : World) (text : List ℕ) → ((given : List (Option ℕ)) × IsGivenText world text given) ⊎ ((f : HistFault) × HasHistFault world text f)

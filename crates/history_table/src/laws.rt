@@ -1,7 +1,7 @@
 //! The laws of history texts, each as the contract of a function that does nothing.
-ghost use Rattle.history_table.specs.History.{OneHistory};
+ghost use Rattle.history_table.specs.History.{OneHistory, HistoryOrFault};
 
-use trio_text::{text_has_one_fault, text_is_one_list_of_tokens};
+use trio_text::{text_has_one_fault, text_has_tokens_or_a_fault, text_is_one_list_of_tokens};
 
 /// A text is one given history of a specification at most, or has one fault at most, and never both.
 pub fn text_has_one_history()
@@ -9,4 +9,11 @@ pub fn text_has_one_history()
 {
     text_is_one_list_of_tokens();
     text_has_one_fault();
+}
+
+/// Every text is a given history of a specification, or has a fault.
+pub fn text_has_a_history_or_a_fault()
+    ensures { HistoryOrFault }
+{
+    text_has_tokens_or_a_fault();
 }
