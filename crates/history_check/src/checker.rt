@@ -7,11 +7,9 @@ ghost use Rattle.history_check.specs.Answers.{verdict_of};
 ghost use Rattle.history_check.specs.Fits.{FormulaFits, AskedInside};
 
 use crate::truth::holds;
+use history_table::Table;
 use std::alloc::{AllocError, Global};
-use trio_types::{Axiom, List, Spec};
-
-/// A value index for each cell, in the order of the cells' numbers.
-pub type Table = List<u16>;
+use trio_types::{Axiom, Spec};
 
 /// What a table makes of a specification.
 #[derive(Clone, Copy, Debug, PartialEq, Eq)]

@@ -6,4 +6,4 @@ mod terms;
 mod truth;
 mod window;
 
-pub use checker::{Table, Verdict, check};
+pub use checker::{Verdict, check};

@@ -6,7 +6,7 @@ ghost use Rattle.trio_types.specs.Values.{value};
 ghost use Rattle.trio_types.specs.Verdict.{world_of};
 ghost use Rattle.history_check.specs.Fits.{TermFits, IsBounded};
 
-use crate::checker::Table;
+use history_table::Table;
 use trio_types::{SignedTerm, Spec, Term, cell_of, index_of, value_at};
 
 /// The value of a term at an instant, under the values of the variables, where it has one.

@@ -9,9 +9,9 @@ ghost use Rattle.trio_types.specs.Truth.{truth, is_value, relates, is_iff, far_t
 ghost use Rattle.trio_types.specs.Verdict.{world_of};
 ghost use Rattle.history_check.specs.Fits.{FormulaFits, AllFit, QuantifierFits, IsNear, IsWindowOf, IsFirst, IsLast};
 
-use crate::checker::Table;
 use crate::terms::value_of;
 use crate::window::{Window, ahead, at_distance, behind, between, in_future, in_past};
+use history_table::Table;
 use trio_base::limits::MOST_OPEN;
 use trio_types::{Ends, FarOp, Formula, OneOp, PairOp, Rel, Spec, size_of, value_at};
 

@@ -1,14 +1,3 @@
-pub mod Least
-pub mod Terms
-pub mod Gathers
-pub mod Placed
-pub mod Numbered
-pub mod Noted
-pub mod Enumerated
 pub mod Erased
-pub mod Empty
-pub mod Sorts
-pub mod Fitting
-pub mod Distinct
-pub mod WellFormed
-pub mod Texts
+pub mod KindLemmas
+pub mod RangeLemmas

@@ -1,72 +1,96 @@
--- Which terms have a wrong kind: each rule names the token at which it is broken. No rule rests on a term without a kind.
-use Rattle.std.specs.Prelude.{ℕ, Bool, true, false, if◌then◌else◌, List, [], ◌∷◌, ◌++◌, map, filter}
+-- What a text uses, as the kinds of a specification's parts are judged, with the token that is at fault where a use is wrong.
+use Rattle.std.specs.Prelude.{ℕ, Bool, List, [], ◌∷◌, ◌++◌, Option, None, Some, map, length, slice_get, zip}
 use Rattle.std.specs.List.{flat_map}
-use Rattle.trio_syntax.specs.declared.tree.TermTree.{TermTree}
-use Rattle.trio_syntax.specs.declared.tree.TermTree.TheOpen.{TermTree-F}
-use Rattle.trio_syntax.specs.declared.tree.TermTree.TheOpen as open_term
-use Rattle.trio_syntax.specs.declared.tree.TermTree.TheFolds.{fold-TermTree}
-use Rattle.trio_syntax.specs.declared.tree.FormulaTree.{FormulaTree}
-use Rattle.trio_syntax.specs.declared.tree.FormulaTree.TheOpen.{FormulaTree-F}
-use Rattle.trio_syntax.specs.declared.tree.FormulaTree.TheOpen as open_formula
-use Rattle.trio_syntax.specs.declared.tree.FormulaTree.TheFolds.{fold-FormulaTree}
+use Rattle.std.specs.Option.{option_map}
+use Rattle.trio_base.specs.declared.operators.Rel.{Rel}
+use Rattle.trio_syntax.specs.declared.tree.Mention.{Mention}
+use Rattle.trio_syntax.specs.declared.tree.RefTree.{RefTree}
+use Rattle.trio_syntax.specs.declared.tree.RefTree.TheVariants as ref
+use Rattle.trio_syntax.specs.declared.tree.TermTree.{TermTree, out-TermTree}
+use Rattle.trio_syntax.specs.declared.tree.TermShape.{TermShape, TermShape-F, out-TermShape}
+use Rattle.trio_syntax.specs.declared.tree.TermShape.TheOpen as shape
+use Rattle.trio_syntax.specs.declared.tree.PartTree.{PartTree}
 use Rattle.trio_syntax.specs.declared.tree.SpecTree.{SpecTree}
-use Rattle.trio_reader.specs.declared.kind.TermKind.{TermKind}
-use Rattle.trio_reader.specs.declared.kind.TermKind.TheVariants as kind
-use Rattle.trio_reader.specs.Places.{unless, names_in_term}
-use Rattle.trio_reader.specs.Scope.{is_among, item_names}
+use Rattle.trio_types.specs.declared.spec.Item.{Item}
+use Rattle.trio_types.specs.Kinds.{Kind, Use, kind, kind_in, term_uses, in_role, of_domain, of_item, alone, part, distance, argument, compared, is_right}
+use Rattle.trio_scope.specs.Places.{unless}
+use Rattle.trio_scope.specs.declared.walk.Role.{Role}
+use Rattle.trio_scope.specs.declared.walk.Role.TheVariants as role
+use Rattle.trio_scope.specs.Scope.{names_of_ref, refs_of}
+use Rattle.trio_scope.specs.Gather.{Variable, Finding, places_in_claims}
+use Rattle.trio_reader.specs.Erasure.{domain_of, domains_of, sense_of, sense_term, sense_item, item_count, term_of, world_of_tree}
 
--- a formula of a term alone is of kind bool
-abbrev pub may_stand_alone : TermKind → Bool
-may_stand_alone kind.Truth = true
-may_stand_alone kind.Unkinded = true
-may_stand_alone k = false
+-- a use, with its token
+pub record Placed : Type 0 where
+  pub place : ℕ
+  pub use_ : Use
 
--- what stands behind `-` is a number, and has no sign of its own
-abbrev pub may_be_part : TermKind → Bool
-may_be_part kind.Number = true
-may_be_part kind.Unkinded = true
-may_be_part k = false
+abbrev pub placed : ℕ → Use → Placed
+placed p u = record { place = p; use_ = u }
 
--- a distance is a number
-abbrev pub may_be_distance : TermKind → Bool
-may_be_distance kind.Number = true
-may_be_distance kind.Signed = true
-may_be_distance kind.Unkinded = true
-may_be_distance k = false
+-- the places of the uses that are not right
+abbrev pub wrong_places : List Placed → List ℕ
+wrong_places uses = flat_map (λ u. unless (is_right u.use_) u.place) uses
 
--- a term's kind, and the places at which it breaks a rule: a name is that of an item, a part is a number
-abbrev pub term_kind : List (List ℕ) → TermTree-F (TermKind × List ℕ) → TermKind × List ℕ
-term_kind items (open_term.Number n p) = (kind.Number, [])
-term_kind items (open_term.Truth b) = (kind.Truth, [])
-term_kind items (open_term.Named name p) = if is_among items name then (kind.Truth, []) else (kind.Unkinded, p ∷ [])
-term_kind items (open_term.Minus p t) = (kind.Signed, unless (may_be_part t.0) p ++ t.1)
+-- the kind of a term of the tree
+abbrev pub kind_of : SpecTree → List Variable → TermTree → Kind
+kind_of tree e t = kind (world_of_tree tree) (domains_of tree e) (term_of tree t e)
 
-unfoldable pub kind_of : List (List ℕ) → TermTree → TermKind × List ℕ
-kind_of items = fold-TermTree (TermKind × List ℕ) (term_kind items)
+-- what a term's role asks of it, at its first token; a comparison and a read ask it of their terms themselves
+abbrev pub role_uses : Role → ℕ → Kind → List Placed
+role_uses role.Alone p k = placed p (in_role alone k) ∷ []
+role_uses role.Distance p k = placed p (in_role distance k) ∷ []
+role_uses role.Part p k = placed p (in_role part k) ∷ []
+role_uses role.Factor p k = placed p (in_role part k) ∷ []
+role_uses role.Compared p k = []
+role_uses role.Argument p k = []
 
--- the places in a term at which it reads an item
-abbrev pub reads_in : List (List ℕ) → TermTree → List ℕ
-reads_in items t = map (λ m. m.place) (filter (λ m. is_among items m.name) (names_in_term t))
+-- a name alone, at its token
+abbrev pub name_uses : SpecTree → List Variable → Bool → Mention → List Placed
+name_uses tree e inside m = map (placed m.place) (term_uses (world_of_tree tree) (domains_of tree e) inside (sense_term (sense_of tree e m.name)))
 
--- the places in a term that is a formula alone, whose first token is this one, at which a rule is broken
-abbrev pub alone_places : List (List ℕ) → ℕ → TermTree → List ℕ
-alone_places items p t = unless (may_stand_alone (kind_of items t).0) p ++ (kind_of items t).1
+abbrev pub args_of : Option Item → List ℕ
+args_of None = []
+args_of (Some item) = item.args
 
--- the places in a distance, whose first token is this one, at which a rule is broken; a distance reads no item
-abbrev pub distance_places : List (List ℕ) → ℕ → TermTree → List ℕ
-distance_places items p t = unless (may_be_distance (kind_of items t).0) p ++ (reads_in items t ++ (kind_of items t).1)
+-- an argument of a domain, at its first token
+abbrev pub argument_use : SpecTree → List Variable → ℕ × TermTree → Placed
+argument_use tree e a = placed (out-TermTree a.1).place (in_role (argument (kind_in (world_of_tree tree) a.0)) (kind_of tree e a.1))
 
-abbrev pub formula_kinds : List (List ℕ) → FormulaTree-F (List ℕ) → List ℕ
-formula_kinds items (open_formula.Atom p t) = alone_places items p t
-formula_kinds items (open_formula.Not f) = f
-formula_kinds items (open_formula.And fs) = flat_map (λ f. f) fs
-formula_kinds items (open_formula.Or fs) = flat_map (λ f. f) fs
-formula_kinds items (open_formula.Implies f g) = f ++ g
-formula_kinds items (open_formula.Dist f p t) = f ++ distance_places items p t
+-- a read with this many arguments
+abbrev pub item_use : SpecTree → Bool → ℕ → ℕ → Use
+item_use tree inside number given = of_item inside (option_map (λ item. length item.args) (slice_get (world_of_tree tree).items number)) given
 
--- the places in a formula at which a rule on kinds is broken
-unfoldable pub kind_places_in : List (List ℕ) → FormulaTree → List ℕ
-kind_places_in items = fold-FormulaTree (List ℕ) (formula_kinds items)
+-- a read of the item of this number, at its name, and its arguments
+abbrev pub read_uses : SpecTree → List Variable → Bool → ℕ → ℕ → List TermTree → List Placed
+read_uses tree e inside p number args =
+    placed p (item_use tree inside number (length args))
+    ∷ map (argument_use tree e) (zip (args_of (slice_get (world_of_tree tree).items number)) args)
 
+-- what a term itself uses, apart from its parts
+abbrev pub shape_uses : SpecTree → List Variable → Bool → TermShape-F TermShape PartTree TermTree → List Placed
+shape_uses tree e inside (shape.Named m) = name_uses tree e inside m
+shape_uses tree e inside (shape.Call m args) = read_uses tree e inside m.place (sense_item (item_count tree) (sense_of tree e m.name)) args
+shape_uses tree e inside s = []
+
+-- what an occurrence of a term uses, apart from its parts
+abbrev pub own_uses : SpecTree → List Variable → Role → Bool → TermTree → List Placed
+own_uses tree e r inside t =
+    role_uses r (out-TermTree t).place (kind_of tree e t) ++ shape_uses tree e inside (out-TermShape (out-TermTree t).shape)
+
+-- what names a domain, at its name
+abbrev pub ref_uses : SpecTree → RefTree → List Placed
+ref_uses tree ref.Bool = []
+ref_uses tree (ref.Named m) = placed m.place (of_domain (kind_in (world_of_tree tree) (domain_of tree (ref.Named m)))) ∷ []
+
+abbrev pub kind_finding : SpecTree → Finding
+kind_finding tree = record {
+  term = λ e r inside t. wrong_places (own_uses tree e r inside t);
+  compared = λ e rel p t u. wrong_places (placed p (in_role (compared rel (kind_of tree e t)) (kind_of tree e u)) ∷ []);
+  variable = λ e x domain. wrong_places (ref_uses tree domain);
+}
+
+-- the places at which a use is wrong
 unfoldable pub kind_places : SpecTree → List ℕ
-kind_places tree = flat_map (λ a. kind_places_in (item_names tree) a.formula) tree.axioms
+kind_places tree =
+    flat_map (λ s. flat_map (λ r. wrong_places (ref_uses tree r)) (refs_of s)) tree.declarations ++ places_in_claims (kind_finding tree) tree

@@ -1,9 +1,7 @@
-pub mod Places
-pub mod Scope
+pub mod Erasure
+pub mod TermKinds
 pub mod Kinds
 pub mod Ranges
-pub mod Erasure
-pub mod Numbers
 pub mod Reading
 pub mod Sound
 pub mod Laws

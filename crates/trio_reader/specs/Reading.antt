@@ -5,31 +5,33 @@ use Rattle.trio_text.specs.declared.token.Token.{Token}
 use Rattle.trio_text.specs.Tokens.{IsTokens, IsLexFault}
 use Rattle.trio_text.specs.Lexemes.{lexemes_of}
 use Rattle.trio_types.specs.declared.spec.Spec.{Spec}
+use Rattle.trio_types.specs.Verdict.{parts_of}
 use Rattle.trio_syntax.specs.declared.tree.SpecTree.{SpecTree}
 use Rattle.trio_syntax.specs.Reading.{IsSyntaxFault}
 use Rattle.trio_syntax.specs.Grammar.{IsSpec}
 use Rattle.trio_syntax.specs.Depth.{first_deep}
-use Rattle.trio_reader.specs.declared.fault.TextFault.{TextFault}
-use Rattle.trio_reader.specs.declared.fault.TextFault.TheVariants as fault
-use Rattle.trio_reader.specs.Places.{least}
-use Rattle.trio_reader.specs.Scope.{unknown_places, repeated_places}
+use Rattle.trio_scope.specs.Places.{least}
+use Rattle.trio_scope.specs.Scope.{unknown_places, repeated_places}
+use Rattle.trio_reader.specs.declared.fault.SpecFault.{SpecFault}
+use Rattle.trio_reader.specs.declared.fault.SpecFault.TheVariants as fault
+use Rattle.trio_reader.specs.Erasure.{parts_of_tree}
 use Rattle.trio_reader.specs.Kinds.{kind_places}
-use Rattle.trio_reader.specs.Ranges.{range_places, count_fault}
-use Rattle.trio_reader.specs.Erasure.{IsSpecOf}
+use Rattle.trio_reader.specs.Ranges.{out_of_range}
+use Rattle.trio_limits.specs.Limits.{count_fault}
 
 -- the first fault of two phases
-abbrev pub or_later : Option TextFault → Option TextFault → Option TextFault
+abbrev pub or_later : Option SpecFault → Option SpecFault → Option SpecFault
 or_later None later = later
 or_later (Some f) later = Some f
 
 -- the first fault of a tree: each phase reports its least place
-abbrev pub tree_fault : SpecTree → Option TextFault
+abbrev pub tree_fault : SpecTree → Option SpecFault
 tree_fault tree =
     or_later (option_map fault.Unknown (least (unknown_places tree)))
     (or_later (option_map fault.Twice (least (repeated_places tree)))
     (or_later (option_map fault.Kind (least (kind_places tree)))
-    (or_later (option_map fault.Range (least (range_places tree)))
-    (option_map (λ c. fault.Limit c.0 c.1) (count_fault tree)))))
+    (or_later (option_map fault.Range (least (out_of_range tree)))
+    (option_map (λ c. fault.Limit c.0 c.1) (count_fault (parts_of_tree tree))))))
 
 -- the text is a list of tokens in which at most 100 brackets are open at once
 pub record IsShallow (text : List ℕ) (tokens : List Token) : Type 0 where
@@ -47,10 +49,10 @@ pub record IsSpecText (text : List ℕ) (spec : Spec) : Type 0 where
   pub tree : SpecTree
   pub read : IsTreeText text tree
   pub sound : tree_fault tree ≡ None
-  pub stands : IsSpecOf tree spec
+  pub stands : parts_of spec ≡ parts_of_tree tree
 
 -- the text has this first fault
-abbrev pub HasFault : List ℕ → TextFault → Type 0
+abbrev pub HasFault : List ℕ → SpecFault → Type 0
 HasFault text (fault.Lex place) = IsLexFault text place
 HasFault text (fault.Deep place) = (tokens : List Token) × IsTokens text tokens × (first_deep (lexemes_of text tokens) ≡ Some place)
 HasFault text (fault.Syntax place) =
@@ -59,6 +61,6 @@ HasFault text fault.Memory = Unit {0}
 HasFault text f = (tree : SpecTree) × IsTreeText text tree × (tree_fault tree ≡ Some f)
 
 -- the text's specification, or its first fault
-abbrev pub IsAnswer : List ℕ → Result Spec TextFault → Type 0
+abbrev pub IsAnswer : List ℕ → Result Spec SpecFault → Type 0
 IsAnswer text (Ok spec) = IsSpecText text spec
 IsAnswer text (Err f) = HasFault text f

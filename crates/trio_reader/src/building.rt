@@ -1,75 +1,43 @@
-//! The specification of a tree.
+//! Terms, formulas and claims of a specification from those of a tree.
 
-ghost use Rattle.std.specs.Prelude.{◌≡◌, ◌^◌, ◌<◌, [], ◌∷◌, length, map, IfOk};
-ghost use Rattle.trio_reader.specs.Scope.{item_names};
+ghost use Rattle.std.specs.Prelude.{◌≡◌, map, IfOk, OnOk};
 ghost use Rattle.std.specs.Option.{option_map};
-ghost use Rattle.trio_reader.specs.Erasure.{item_of, axiom_of, bool_domain, IsSpecOf};
+ghost use Rattle.trio_scope.specs.Gather.{variables_of};
+ghost use Rattle.trio_reader.specs.Erasure.{sense_term, quantified_from, part_from, claims_from};
 ghost use Rattle.trio_reader.specs.Erasure as spec;
-ghost use Rattle.trio_reader.specs.Sound.{IsSound};
 
-use crate::scope::Scope;
+use crate::sense::{Sense, domain_of, sense_of};
 use sqlite_items::Boxed;
 use std::alloc::{AllocError, Global};
-use trio_syntax::{AxiomTree, FormulaTree, ItemTree, TermTree, Written};
-use trio_types::{
-    Axiom, Axioms, Domain, DomainKind, Domains, FarOp, Formula, Formulas, Item, Items, List, Name,
-    SignedTerm, Spec, Term,
+use trio_scope::{Binder, Scope};
+use trio_syntax::{
+    ClaimTree, FormulaTree, PartTree, Quantifier, TermShape, TermTree, Written,
 };
+use trio_types::{Axiom, Axioms, Formula, Formulas, List, SignedTerm, SignedTerms, Term, Terms};
 
-/// The specification of a tree that has no fault; only want of memory refuses it.
-pub fn spec_of(alloc: Global, scope: &Scope<'_>) -> Result<Spec, AllocError>
-    requires { IsSound scope.now.tree.now }
-    ensures { IfOk result (IsSpecOf scope.now.tree.now) }
+/// The axioms of a tree, or its goals; only want of memory refuses them.
+pub fn claims_of(alloc: Global, scope: &Scope<'_>, goals: bool) -> Result<Axioms, AllocError>
+    ensures { IfOk result (λ made. made ≡ claims_from scope.now.tree.now goals scope.now.tree.now.claims) }
 {
-    Ok(Spec {
-        instants: scope.tree.instants,
-        domains: domains(alloc)?,
-        items: items_of(alloc, scope.tree.items.as_slice())?,
-        axioms: axioms_of(alloc, scope, scope.tree.axioms.as_slice())?,
-        goals: List::new(alloc),
-    })
-}
-
-/// Domain 0 alone.
-fn domains(alloc: Global) -> Result<Domains, AllocError>
-    ensures { IfOk result (λ made. made ≡ bool_domain ∷ []) }
-{
+    let mut around = Vec::new(alloc);
     let mut made = Vec::new(alloc);
-    made.push(Domain {
-        name: Name::new(alloc, "bool")?,
-        kind: DomainKind::Bool,
-    })?;
-    Ok(List::from_vec(made))
-}
-
-fn items_of(alloc: Global, items: &[ItemTree]) -> Result<Items, AllocError>
-    ensures { IfOk result (λ made. made ≡ map item_of items.now) }
-{
-    let mut made = Vec::new(alloc);
-    for item in items {
-        made.push(Item {
-            name: item.name.copy(alloc)?,
-            input: item.input,
-            args: List::new(alloc),
-            value: 0,
-        })?;
+    for claim in scope.tree.claims.as_slice() {
+        if is_wanted(goals, claim) {
+            made.push(Axiom {
+                name: claim.name.name.copy(alloc)?,
+                at: instant_of(&claim.at),
+                formula: formula_of(alloc, scope, &mut around, &claim.formula)?,
+            })?;
+        }
     }
     Ok(List::from_vec(made))
 }
 
-fn axioms_of(alloc: Global, scope: &Scope<'_>, axioms: &[AxiomTree]) -> Result<Axioms, AllocError>
-    requires { length scope.now.tree.now.items < 2 ^ 32 }
-    ensures { IfOk result (λ made. made ≡ map (axiom_of (item_names scope.now.tree.now)) axioms.now) }
+/// Whether a claim is a goal, or an axiom.
+fn is_wanted(goals: bool, claim: &ClaimTree) -> bool
+    ensures { result ≡ spec.is_wanted goals claim.now }
 {
-    let mut made = Vec::new(alloc);
-    for axiom in axioms {
-        made.push(Axiom {
-            name: axiom.name.copy(alloc)?,
-            at: instant_of(&axiom.at),
-            formula: formula_of(alloc, scope, &axiom.formula)?,
-        })?;
-    }
-    Ok(List::from_vec(made))
+    if goals { claim.goal } else { !claim.goal }
 }
 
 fn instant_of(at: &Option<Written>) -> Option<u32>
@@ -82,91 +50,199 @@ fn instant_of(at: &Option<Written>) -> Option<u32>
 }
 
 #[cycle(building)]
-fn formula_of(
+fn formula_of<'a>(
     alloc: Global,
     scope: &Scope<'_>,
-    formula: &FormulaTree,
+    around: &mut Vec<Binder<'a>>,
+    formula: &'a FormulaTree,
 ) -> Result<Formula, AllocError>
-    requires { length scope.now.tree.now.items < 2 ^ 32 }
-    ensures { IfOk result (λ made. made ≡ spec.formula_of (item_names scope.now.tree.now) formula.now) }
+    ensures made { IfOk result (λ made. made ≡ spec.formula_of scope.now.tree.now formula.now (variables_of around.old.items)) }
+    ensures kept { OnOk result (around.new.items ≡ around.old.items) }
 {
     match formula {
-        FormulaTree::Atom(_, term) => Ok(Formula::Lone(term_of(alloc, scope, term)?)),
-        FormulaTree::Not(part) => Ok(Formula::Not(boxed_of(alloc, scope, part.get())?)),
-        FormulaTree::And(parts) => Ok(Formula::And(formulas_of(alloc, scope, parts.as_slice())?)),
-        FormulaTree::Or(parts) => Ok(Formula::Or(formulas_of(alloc, scope, parts.as_slice())?)),
+        FormulaTree::Lone(term) => {
+            Ok(Formula::Lone(term_of(alloc, scope, around.as_slice(), term)?))
+        }
+        FormulaTree::Compare(rel, _, left, right) => {
+            let left = term_of(alloc, scope, around.as_slice(), left)?;
+            let right = term_of(alloc, scope, around.as_slice(), right)?;
+            Ok(Formula::Compare(*rel, left, right))
+        }
+        FormulaTree::Not(part) => Ok(Formula::Not(boxed_of(alloc, scope, around, part.get())?)),
+        FormulaTree::And(parts) => {
+            Ok(Formula::And(formulas_of(alloc, scope, around, parts.as_slice())?))
+        }
+        FormulaTree::Or(parts) => {
+            Ok(Formula::Or(formulas_of(alloc, scope, around, parts.as_slice())?))
+        }
         FormulaTree::Implies(left, right) => {
-            let left = boxed_of(alloc, scope, left.get())?;
-            let right = boxed_of(alloc, scope, right.get())?;
+            let left = boxed_of(alloc, scope, around, left.get())?;
+            let right = boxed_of(alloc, scope, around, right.get())?;
             Ok(Formula::Implies(left, right))
         }
-        FormulaTree::Dist(part, _, term) => {
-            let part = boxed_of(alloc, scope, part.get())?;
-            Ok(Formula::Far(FarOp::Dist, part, term_of(alloc, scope, term)?))
+        FormulaTree::Iff(left, right) => {
+            let left = boxed_of(alloc, scope, around, left.get())?;
+            let right = boxed_of(alloc, scope, around, right.get())?;
+            Ok(Formula::Iff(left, right))
+        }
+        FormulaTree::Quantified(quantifier, variable, domain, body) => {
+            let binder = Binder { variable, domain };
+            quantified_of(alloc, scope, around, *quantifier, binder, body.get())
+        }
+        FormulaTree::One(op, part) => {
+            Ok(Formula::One(*op, boxed_of(alloc, scope, around, part.get())?))
+        }
+        FormulaTree::Far(op, part, distance) => {
+            let part = boxed_of(alloc, scope, around, part.get())?;
+            let distance = term_of(alloc, scope, around.as_slice(), distance)?;
+            Ok(Formula::Far(*op, part, distance))
+        }
+        FormulaTree::Pair(op, left, right) => {
+            let left = boxed_of(alloc, scope, around, left.get())?;
+            let right = boxed_of(alloc, scope, around, right.get())?;
+            Ok(Formula::Pair(*op, left, right))
         }
     }
 }
 
 #[cycle(building)]
-fn boxed_of(
+fn boxed_of<'a>(
     alloc: Global,
     scope: &Scope<'_>,
-    formula: &FormulaTree,
+    around: &mut Vec<Binder<'a>>,
+    formula: &'a FormulaTree,
 ) -> Result<Boxed<Formula>, AllocError>
-    requires { length scope.now.tree.now.items < 2 ^ 32 }
-    ensures { IfOk result (λ made. made ≡ spec.formula_of (item_names scope.now.tree.now) formula.now) }
+    ensures made { IfOk result (λ made. made ≡ spec.formula_of scope.now.tree.now formula.now (variables_of around.old.items)) }
+    ensures kept { OnOk result (around.new.items ≡ around.old.items) }
 {
-    Boxed::new(alloc, formula_of(alloc, scope, formula)?)
+    Boxed::new(alloc, formula_of(alloc, scope, around, formula)?)
 }
 
 #[cycle(building)]
-fn formulas_of(
+fn formulas_of<'a>(
     alloc: Global,
     scope: &Scope<'_>,
-    formulas: &[FormulaTree],
+    around: &mut Vec<Binder<'a>>,
+    formulas: &'a [FormulaTree],
 ) -> Result<Formulas, AllocError>
-    requires { length scope.now.tree.now.items < 2 ^ 32 }
-    ensures { IfOk result (λ made. made ≡ map (spec.formula_of (item_names scope.now.tree.now)) formulas.now) }
+    ensures made { IfOk result (λ made. made ≡ map (λ f. spec.formula_of scope.now.tree.now f (variables_of around.old.items)) formulas.now) }
+    ensures kept { OnOk result (around.new.items ≡ around.old.items) }
 {
     let mut made = Vec::new(alloc);
     for formula in formulas {
-        made.push(formula_of(alloc, scope, formula)?)?;
+        made.push(formula_of(alloc, scope, around, formula)?)?;
     }
     Ok(List::from_vec(made))
 }
 
-fn term_of(alloc: Global, scope: &Scope<'_>, term: &TermTree) -> Result<Term, AllocError>
-    requires { length scope.now.tree.now.items < 2 ^ 32 }
-    ensures { IfOk result (λ made. made ≡ spec.term_of (item_names scope.now.tree.now) term.now) }
+#[cycle(building)]
+fn quantified_of<'a>(
+    alloc: Global,
+    scope: &Scope<'_>,
+    around: &mut Vec<Binder<'a>>,
+    quantifier: Quantifier,
+    binder: Binder<'a>,
+    body: &'a FormulaTree,
+) -> Result<Formula, AllocError>
+    ensures made { IfOk result (λ made. made ≡ quantified_from scope.now.tree.now (variables_of around.old.items) quantifier binder.entry.variable.now binder.entry.domain.now (spec.formula_of scope.now.tree.now body.now)) }
+    ensures kept { OnOk result (around.new.items ≡ around.old.items) }
 {
-    match term {
-        TermTree::Number(number, _) => Ok(Term::Number(*number)),
-        TermTree::Truth(value) => Ok(Term::Value(0, u32::from(*value))),
-        TermTree::Named(name, _) => Ok(Term::Read(item_number(scope, name), List::new(alloc))),
-        TermTree::Minus(_, part) => {
-            let mut parts = Vec::new(alloc);
-            parts.push(SignedTerm {
-                minus: true,
-                term: term_of(alloc, scope, part.get())?,
-            })?;
-            Ok(Term::Sum(List::from_vec(parts)))
+    let name = binder.variable.name.copy(alloc)?;
+    let domain = domain_of(scope, binder.domain);
+    around.push(binder)?;
+    let body = boxed_of(alloc, scope, around, body)?;
+    around.pop();
+    match quantifier {
+        Quantifier::All => Ok(Formula::All(name, domain, body)),
+        Quantifier::Ex => Ok(Formula::Ex(name, domain, body)),
+    }
+}
+
+#[cycle(terms)]
+fn term_of(
+    alloc: Global,
+    scope: &Scope<'_>,
+    around: &[Binder<'_>],
+    term: &TermTree,
+) -> Result<Term, AllocError>
+    ensures { IfOk result (λ made. made ≡ spec.term_of scope.now.tree.now term.now (variables_of around.now)) }
+{
+    shape_of(alloc, scope, around, &term.shape)
+}
+
+#[cycle(terms)]
+fn shape_of(
+    alloc: Global,
+    scope: &Scope<'_>,
+    around: &[Binder<'_>],
+    shape: &TermShape,
+) -> Result<Term, AllocError>
+    ensures { IfOk result (λ made. made ≡ spec.shape_of scope.now.tree.now shape.now (variables_of around.now)) }
+{
+    match shape {
+        TermShape::Number(written) => Ok(Term::Number(written.number)),
+        TermShape::Truth(value) => Ok(Term::Value(0, u32::from(*value))),
+        TermShape::Named(mention) => named_of(alloc, sense_of(scope, around, &mention.name)),
+        TermShape::Call(mention, arguments) => {
+            let item = sense_of(scope, around, &mention.name).item(scope.items());
+            let arguments = terms_of(alloc, scope, around, arguments.as_slice())?;
+            Ok(Term::Read(item, arguments))
+        }
+        TermShape::Sum(parts) => {
+            Ok(Term::Sum(parts_of(alloc, scope, around, parts.as_slice())?))
+        }
+        TermShape::Times(written, factor) => {
+            let factor = term_of(alloc, scope, around, factor.get())?;
+            Ok(Term::Times(written.number, Boxed::new(alloc, factor)?))
         }
     }
 }
 
-/// The number of the item of this name; 0 where there is none.
-fn item_number(scope: &Scope<'_>, name: &Name) -> u32
-    requires { length scope.now.tree.now.items < 2 ^ 32 }
-    ensures { result ≡ spec.item_number (item_names scope.now.tree.now) name.now }
+/// A name alone; only want of memory refuses it, or more variables round it than are numbered.
+fn named_of(alloc: Global, sense: Sense) -> Result<Term, AllocError>
+    ensures { IfOk result (λ made. made ≡ sense_term sense) }
 {
-    match scope.number(name) {
-        Some(number) => {
-            if number < scope.tree.items.len() {
-                number as u32
-            } else {
-                0
-            }
-        }
-        None => 0,
+    match sense {
+        Sense::Variable(level) => match u32::try_from(level) {
+            Ok(level) => Ok(Term::Var(level)),
+            Err(_) => Err(AllocError),
+        },
+        Sense::Word(domain, index) => Ok(Term::Value(domain, index)),
+        Sense::Item(number) => Ok(Term::Read(number, List::new(alloc))),
     }
+}
+
+#[cycle(terms)]
+fn terms_of(
+    alloc: Global,
+    scope: &Scope<'_>,
+    around: &[Binder<'_>],
+    terms: &[TermTree],
+) -> Result<Terms, AllocError>
+    ensures { IfOk result (λ made. made ≡ map (λ t. spec.term_of scope.now.tree.now t (variables_of around.now)) terms.now) }
+{
+    let mut made = Vec::new(alloc);
+    for term in terms {
+        made.push(term_of(alloc, scope, around, term)?)?;
+    }
+    Ok(List::from_vec(made))
+}
+
+#[cycle(terms)]
+fn parts_of(
+    alloc: Global,
+    scope: &Scope<'_>,
+    around: &[Binder<'_>],
+    parts: &[PartTree],
+) -> Result<SignedTerms, AllocError>
+    ensures { IfOk result (λ made. made ≡ map (λ p. part_from scope.now.tree.now p (variables_of around.now)) parts.now) }
+{
+    let mut made = Vec::new(alloc);
+    for part in parts {
+        made.push(SignedTerm {
+            minus: part.minus,
+            term: term_of(alloc, scope, around, &part.term)?,
+        })?;
+    }
+    Ok(List::from_vec(made))
 }

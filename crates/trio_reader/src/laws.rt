@@ -1,6 +1,6 @@
 //! What follows of the definitions alone.
 
-ghost use Rattle.trio_reader.specs.Laws.{OneSpecification, OneFault, FaultyIsNone};
+ghost use Rattle.trio_reader.specs.Laws.{OneSpecification, OneFault, FaultyIsNone, NoneHasNeither};
 
 /// A text is one specification at most.
 pub fn text_has_one_specification()
@@ -15,4 +15,9 @@ pub fn text_has_one_fault()
 /// A text with a fault is no specification.
 pub fn faulty_text_is_no_specification()
     ensures { FaultyIsNone }
+{}
+
+/// Every text is a specification or has a fault: none has neither.
+pub fn text_has_specification_or_fault()
+    ensures { NoneHasNeither }
 {}

@@ -2,20 +2,19 @@
 #![tactic(auto)]
 
 mod building;
+mod declaring;
 mod fault;
 mod kind;
 mod kinds;
 mod laws;
-mod phases;
-mod place;
+mod lookup;
 mod ranges;
-mod reading;
-mod repeated;
-mod scope;
-#[cfg(test)]
-mod tests;
-mod unknown;
+mod sense;
+mod world;
 
 pub use fault::SpecFault;
-pub use laws::{faulty_text_is_no_specification, text_has_one_fault, text_has_one_specification};
-pub use reading::read_spec;
+pub use laws::{
+    faulty_text_is_no_specification, text_has_one_fault, text_has_one_specification,
+    text_has_specification_or_fault,
+};
+pub use trio_types::Which;

@@ -1,99 +1,180 @@
-//! Numbers that are out of range, and counts that are above their limits.
+//! Numbers, words and arguments that are out of range.
 
-ghost use Rattle.std.specs.Prelude.{◌≡◌};
+ghost use Rattle.std.specs.Prelude.{◌≡◌, pos, ◌≤ℤ◌, IfOk};
 ghost use Rattle.std.specs.List.{flat_map};
-ghost use Rattle.trio_reader.specs.Places.{least, numbers_in, numbers_in_term};
-ghost use Rattle.trio_reader.specs.Ranges.{at_places, axiom_ranges, large_among, range_places};
+ghost use Rattle.trio_scope.specs.Places.{least};
+ghost use Rattle.trio_reader.specs.Ranges.{instants_places, range_places, words_places, arguments_places, values_places, statement_places, at_places, range_finding, out_of_range};
 ghost use Rattle.trio_reader.specs.Ranges as spec;
 
-use crate::fault::Which;
-use crate::place::{earlier, unless};
-use trio_syntax::{AxiomTree, FormulaTree, SpecTree, TermTree, Written};
-use trio_text::GREATEST_NUMBER;
+use crate::declaring::integer_of;
+use crate::lookup::element;
+use std::alloc::{AllocError, Global};
+use trio_base::Rel;
+use trio_base::limits::{GREATEST_NUMBER, MOST_ARGUMENTS, MOST_INSTANTS, MOST_VALUES};
+use trio_scope::{Binder, Role, Rule, earlier, first_in_claims, unless};
+use trio_syntax::{
+    ClaimTree, DeclarationTree, IntTree, ItemTree, Mention, RefTree, SpecTree, TermShape, TermTree,
+    ValuesTree, Written,
+};
 
-/// The first number that is out of range.
-pub fn first_out_of_range(tree: &SpecTree) -> Option<usize>
-    ensures { result ≡ least (range_places tree.now) }
+/// The first token that is out of range; only want of memory refuses it, or a place that is no number of a token.
+pub fn first_out_of_range(alloc: Global, tree: &SpecTree) -> Result<Option<usize>, AllocError>
+    ensures { IfOk result (λ first. first ≡ least (out_of_range tree.now)) }
 {
-    let mut first = unless((1..=256).contains(&tree.instants), 1);
-    for axiom in tree.axioms.as_slice() {
-        first = earlier(first, in_axiom(tree.instants, axiom));
+    let instants = first_in_instants(tree.instants);
+    let statements = first_in_statements(tree.declarations.as_slice())?;
+    let named = first_named(tree.instants.number, tree.claims.as_slice());
+    let numbers = first_in_claims(alloc, &Numbers {}, tree)?;
+    Ok(earlier(
+        instants,
+        earlier(statements, earlier(named, numbers)),
+    ))
+}
+
+/// No number is above a million.
+fn if_large(written: Written) -> Option<usize>
+    ensures { result ≡ least (spec.if_large written) }
+{
+    unless(written.number <= GREATEST_NUMBER, written.place)
+}
+
+fn first_in_instants(instants: Written) -> Option<usize>
+    ensures { result ≡ least (instants_places instants) }
+{
+    unless(
+        0 < instants.number && instants.number <= MOST_INSTANTS,
+        instants.place,
+    )
+}
+
+fn first_in_statements(statements: &[DeclarationTree]) -> Result<Option<usize>, AllocError>
+    ensures { IfOk result (λ first. first ≡ least (flat_map statement_places statements.now)) }
+{
+    let mut first = None;
+    for statement in statements {
+        first = earlier(first, first_in_statement(statement)?);
     }
-    first
+    Ok(first)
 }
 
-fn in_axiom(instants: u32, tree: &AxiomTree) -> Option<usize>
-    ensures { result ≡ least (axiom_ranges instants tree.now) }
+fn first_in_statement(statement: &DeclarationTree) -> Result<Option<usize>, AllocError>
+    ensures { IfOk result (λ first. first ≡ least (statement_places statement.now)) }
 {
-    earlier(in_instant(instants, &tree.at), in_formula(&tree.formula))
+    match statement {
+        DeclarationTree::Domain(domain) => Ok(first_in_values(&domain.values)),
+        DeclarationTree::Item(item) => first_in_arguments(item),
+    }
 }
 
-fn in_instant(instants: u32, at: &Option<Written>) -> Option<usize>
-    ensures { result ≡ least (at_places instants at.now) }
+fn first_in_values(values: &ValuesTree) -> Option<usize>
+    ensures { result ≡ least (values_places values.now) }
 {
-    match at {
-        Some(at) => unless(at.number < instants, at.place),
+    match values {
+        ValuesTree::Range(low, high) => first_in_range(low, high),
+        ValuesTree::Words(words) => first_in_words(words.as_slice()),
+    }
+}
+
+/// A range has 1 to 64 numbers.
+fn first_in_range(low: &IntTree, high: &IntTree) -> Option<usize>
+    ensures { result ≡ least (range_places low.now high.now) }
+{
+    let fits = has_values(integer_of(low), integer_of(high));
+    let last = earlier(if_large(high.number), unless(fits, high.number.place));
+    earlier(if_large(low.number), last)
+}
+
+/// Whether there are 1 to 64 numbers from the one to the other.
+fn has_values(low: i64, high: i64) -> bool
+    requires above { low ≤ℤ pos 4294967295 }
+    requires below { high ≤ℤ pos 4294967295 }
+    ensures { result ≡ spec.has_values low high }
+{
+    low <= high && high + 1 <= low + i64::from(MOST_VALUES)
+}
+
+/// The first word behind 64 others.
+fn first_in_words(words: &[Mention]) -> Option<usize>
+    ensures { result ≡ least (words_places words.now) }
+{
+    match element(words, MOST_VALUES as usize) {
+        Some(word) => Some(word.place),
         None => None,
     }
 }
 
-#[cycle(ranges)]
-fn in_formula(formula: &FormulaTree) -> Option<usize>
-    ensures { result ≡ least (large_among (numbers_in formula.now)) }
+/// The fifth argument: each is one token, as is the comma before it.
+fn first_in_arguments(item: &ItemTree) -> Result<Option<usize>, AllocError>
+    ensures { IfOk result (λ first. first ≡ least (arguments_places item.now)) }
 {
-    match formula {
-        FormulaTree::Atom(_, term) => in_term(term),
-        FormulaTree::Not(part) => in_formula(part.get()),
-        FormulaTree::And(parts) => in_parts(parts.as_slice()),
-        FormulaTree::Or(parts) => in_parts(parts.as_slice()),
-        FormulaTree::Implies(left, right) => {
-            let left = in_formula(left.get());
-            earlier(left, in_formula(right.get()))
-        }
-        FormulaTree::Dist(part, _, term) => {
-            let part = in_formula(part.get());
-            earlier(part, in_term(term))
-        }
+    if item.args.len() <= MOST_ARGUMENTS as usize {
+        return Ok(None);
+    }
+    let behind = 2 * (MOST_ARGUMENTS as usize + 1);
+    match item.name.place.checked_add(behind) {
+        Some(place) => Ok(Some(place)),
+        None => Err(AllocError),
     }
 }
 
-#[cycle(ranges)]
-fn in_parts(parts: &[FormulaTree]) -> Option<usize>
-    ensures { result ≡ least (flat_map (λ f. large_among (numbers_in f)) parts.now) }
+/// The first number behind `at` that is not that of an instant.
+fn first_named(instants: u32, claims: &[ClaimTree]) -> Option<usize>
+    ensures { result ≡ least (flat_map (λ c. at_places instants c.at) claims.now) }
 {
     let mut first = None;
-    for part in parts {
-        first = earlier(first, in_formula(part));
+    for claim in claims {
+        first = earlier(first, first_at(instants, &claim.at));
     }
     first
 }
 
-fn in_term(term: &TermTree) -> Option<usize>
-    ensures { result ≡ least (large_among (numbers_in_term term.now)) }
+fn first_at(instants: u32, at: &Option<Written>) -> Option<usize>
+    ensures { result ≡ least (at_places instants at.now) }
 {
-    match term {
-        TermTree::Number(number, place) => unless(*number <= GREATEST_NUMBER, *place),
-        TermTree::Minus(_, part) => in_term(part.get()),
-        TermTree::Truth(_) => None,
-        TermTree::Named(_, _) => None,
+    match at {
+        Some(at) => earlier(if_large(*at), unless(at.number < instants, at.place)),
+        None => None,
     }
 }
 
-/// The first count that is above its limit.
-pub fn count_fault(tree: &SpecTree) -> Option<(Which, u64)>
-    ensures { result ≡ spec.count_fault tree.now }
-{
-    let items = tree.items.len() as u64;
-    if items > 256 {
-        return Some((Which::Items, items));
+/// The rule that each number is at most a million.
+#[derive(Clone, Copy, Drop)]
+struct Numbers {}
+
+impl Rule for Numbers {
+    ghost finding = { λ _. range_finding };
+
+    fn term(
+        &self,
+        _around: &[Binder<'_>],
+        _role: Role,
+        _inside: bool,
+        term: &TermTree,
+    ) -> Option<usize> {
+        match &term.shape {
+            TermShape::Number(written) => if_large(*written),
+            TermShape::Times(written, _) => if_large(*written),
+            _ => None,
+        }
     }
-    let cells = items * u64::from(tree.instants);
-    if cells > 1024 {
-        return Some((Which::Cells, cells));
+
+    fn compared(
+        &self,
+        _around: &[Binder<'_>],
+        _rel: Rel,
+        _place: usize,
+        _left: &TermTree,
+        _right: &TermTree,
+    ) -> Option<usize> {
+        None
     }
-    let sizes = 2 * cells;
-    if sizes > 4096 {
-        return Some((Which::Sizes, sizes));
+
+    fn variable(
+        &self,
+        _around: &[Binder<'_>],
+        _variable: &Mention,
+        _domain: &RefTree,
+    ) -> Option<usize> {
+        None
     }
-    None
 }

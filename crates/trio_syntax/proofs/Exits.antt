@@ -1,75 +1,87 @@
--- What holds at the exits of a function that reads a part, by what the last call answered.
-use Rattle.std.proofs.Common.{◌≡◌, ℕ, ◌+◌, Bool, List, [], length, refl, sym, ap, subst, arith, Result, Ok, Err}
-use Rattle.std.specs.Result.{IsErrAnd}
+-- What holds at the exits of a function that reads a form, by what the last call answered.
+use Rattle.std.proofs.Common.{◌≡◌, ℕ, ◌+◌, Bool, true, false, List, ◌++◌, length, refl, sym, ap, subst, ◌∙◌, Option, None, Some, Result, Ok, Err}
 use Rattle.trio_text.specs.declared.lexeme.Lexeme.{Lexeme}
+use Rattle.std.specs.Result.{IsErrAnd}
+use Rattle.std.specs.Bool.{OnTrue, OnFalse}
+use Rattle.trio_text.specs.declared.token.Symbol.TheVariants as signs
 use Rattle.trio_syntax.specs.declared.refusal.Refusal.{Refusal}
 use Rattle.trio_syntax.specs.declared.refusal.Refusal.TheVariants as refusal
-use Rattle.trio_syntax.specs.Reading.{Language}
-use Rattle.trio_syntax.specs.Exact.{Lacks, Reads, Stuck, Exact, Taken}
-use Rattle.trio_syntax.proofs.Rest.{IsIn, Left, left_read, left_stuck, Led, left_led, stuck_led, Nil, reads_nil, is_in_self}
+use Rattle.trio_syntax.specs.Forms.{Form, Sort, Meaning, sign, one}
+use Rattle.trio_syntax.specs.Grammar.{signed, Says}
+use Rattle.trio_syntax.specs.Exact.{Spot, tokens_of, first, Reads, Stuck, ExactAt, ExactNextAt, Fronts, Takes, Stays}
+use Rattle.trio_syntax.proofs.Says.{says_one, one_is}
+use Rattle.trio_syntax.proofs.Sets.{has_left, has_right}
+use Rattle.trio_syntax.proofs.Left.{Left, left_read, left_stuck, left_first, left_right, reads_one, reads_empty, fronts_taken}
 
-stuck_exact : {A : Type 0} (P : Language A) (K : Lexeme → Bool) (before after : List Lexeme) (r : Result A Refusal) (e : Refusal) →
-    IsErrAnd r (λ y. y ≡ e) → (e ≡ refusal.Syntax → Stuck P K before after) → Exact P K before after r
-stuck_exact P K before after (Ok v) e same stuck = absurd same
-stuck_exact P K before after (Err refusal.Syntax) e same stuck = stuck (sym same)
-stuck_exact P K before after (Err refusal.Memory) e same stuck = tt
-
--- the exit of a `?` behind the reader of a part
-pub passed_on : {A B : Type 0} (P : Language A) (K : Lexeme → Bool) (Q : Language B) (J : Lexeme → Bool) (before middle after : List Lexeme) (r : Result A Refusal) (e : Refusal) →
-    IsErrAnd r (λ y. y ≡ e) → Exact Q J middle after (Err e) → (Stuck Q J middle after → Stuck P K before after) → Exact P K before after r
-passed_on P K Q J before middle after r e same exact goes_on =
-    stuck_exact P K before after r e same (λ is. goes_on (subst (λ y. Exact Q J middle after (Err y)) is exact))
-
--- the exit of a `?` behind a step by one token
-pub not_taken : {A B : Type 0} (P : Language A) (K : Lexeme → Bool) (token : B → Lexeme) (before middle after : List Lexeme) (r : Result A Refusal) (e : Refusal) →
-    IsErrAnd r (λ y. y ≡ e) → Taken token middle after (Err e) → (((v : B) → Lacks (token v) middle) → Stuck P K before middle) → Exact P K before after r
-not_taken P K token before middle after r e same taken goes_on =
-    stuck_exact P K before after r e same
-    (λ is.
-    let left = subst (λ y. Taken token middle after (Err y)) is taken in
-    subst (λ y. Stuck P K before y) (sym left.0) (goes_on left.1))
+-- the exit of a `?`
+pub passed_on : {A B : Type 0} (g : Form A) (h : Form B) (old middle new : Spot) (r : Result A Refusal) (e : Refusal) →
+    IsErrAnd r (λ y. y ≡ e) → ExactAt h middle new (Err e) → (Stuck h middle new → Stuck g old new) → ExactAt g old new r
+passed_on g h old middle new (Ok v) e same exact goes_on = absurd same
+passed_on g h old middle new (Err refusal.Syntax) e same exact goes_on = goes_on (subst (λ y. ExactAt h middle new (Err y)) (sym same) exact)
+passed_on g h old middle new (Err refusal.Memory) e same exact goes_on = tt
 
 -- the last call, whose answer is returned as it is
-pub left_exact : {A : Type 0} (P : Language A) (K : Lexeme → Bool) (Q : Language A) (J : Lexeme → Bool) (before middle after : List Lexeme) (r : Result A Refusal) →
-    IsIn J K → Left P K before Q (λ a. a) middle → Exact Q J middle after r → Exact P K before after r
-left_exact P K Q J before middle after (Ok v) inside left exact = left_read inside left exact
-left_exact P K Q J before middle after (Err refusal.Syntax) inside left exact = left_stuck inside left exact
-left_exact P K Q J before middle after (Err refusal.Memory) inside left exact = tt
+pub handed_on : {A : Type 0} (g h : Form A) (old middle new : Spot) (r : Result A Refusal) → Left g old h (λ v. v) middle → ExactAt h middle new r → ExactAt g old new r
+handed_on g h old middle new (Ok v) left exact = left_read left exact
+handed_on g h old middle new (Err refusal.Syntax) left exact = left_stuck left exact
+handed_on g h old middle new (Err refusal.Memory) left exact = tt
 
--- the same part from the same place
-pub exact_here : {A : Type 0} (P : ℕ → Language A) (J : Lexeme → Bool) (p q : ℕ) (before middle after : List Lexeme) (r : Result A Refusal) →
-    middle ≡ before → q + length middle ≡ p + length before → Exact (P q) J middle after r → Exact (P p) J before after r
-exact_here P J p q before middle after r same at exact =
-    let place : q ≡ p = omega (arith, at, ap length same) in
-    subst (λ n. Exact (P n) J before after r) place (subst (λ y. Exact (P q) J y after r) same exact)
+-- the same reading, with its value said otherwise
+pub reads_as : {A : Type 0} {g : Form A} {old new : Spot} {v w : A} → w ≡ v → Reads g old new v → Reads g old new w
+reads_as {g = g} {old = old} {new = new} same reads = subst (λ a. Reads g old new a) (sym same) reads
 
-pub stuck_here : {A : Type 0} (P : ℕ → Language A) {J : Lexeme → Bool} (p q : ℕ) {before middle after : List Lexeme} →
-    middle ≡ before → q + length middle ≡ p + length before → Stuck (P q) J middle after → Stuck (P p) J before after
-stuck_here P {J} p q {before} {middle} {after} same at stuck =
-    let place : q ≡ p = omega (arith, at, ap length same) in
-    subst (λ n. Stuck (P n) J before after) place (subst (λ y. Stuck (P q) J y after) same stuck)
+-- whether `-` stands in front
+pub reads_signed : {old new : Spot} (minus : Bool) → OnTrue minus (Takes (sign signs.Minus) tt old new) → OnFalse minus (Stays (tokens_of (sign signs.Minus)) old new) → Reads signed old new minus
+reads_signed true taken left = left_read (left_first refl (fronts_taken taken)) (reads_one taken)
+reads_signed false taken left = left_read (left_right refl left) reads_empty
 
-pub reads_here : {A : Type 0} (P : ℕ → Language A) {J : Lexeme → Bool} (p q : ℕ) {before middle after : List Lexeme} {v : A} →
-    middle ≡ before → q + length middle ≡ p + length before → Reads (P q) J middle after v → Reads (P p) J before after v
-reads_here P {J} p q {before} {middle} {after} {v} same at reads =
-    let place : q ≡ p = omega (arith, at, ap length same) in
-    subst (λ n. Reads (P n) J before after v) place (subst (λ y. Reads (P q) J y after v) same reads)
+-- the same token, which stands for something else
+pub one_reads : {A B : Type 0} {sort : Sort} {value : ℕ → Meaning sort → A} {other : ℕ → Meaning sort → B} {old new : Spot} {v : A} (f : A → B) →
+    ((p : ℕ) (m : Meaning sort) → f (value p m) ≡ other p m) → Reads (one sort value) old new v → Reads (one sort other) old new (f v)
+one_reads {sort = sort} {old = old} {new = new} f same r =
+    let d = one_is r.reading in
+    let takes : Takes sort d.0 old new = record { whole = r.whole ∙ ap (λ (y : List Lexeme). y ++ new.rest) d.1; place = r.place ∙ ap (λ (y : List Lexeme). old.at + length y) d.1 } in
+    reads_as (ap f d.2 ∙ same old.at d.0) (reads_one takes)
 
--- the same reading, with its end and its value said otherwise
-pub reads_to : {A : Type 0} {P : Language A} {K : Lexeme → Bool} {before after other : List Lexeme} {v w : A} → other ≡ after → w ≡ v → Reads P K before after v → Reads P K before other w
-reads_to {P = P} {K = K} {before = before} {after = after} {other = other} {v = v} end value reads =
-    subst (λ a. Reads P K before other a) (sym value) (subst (λ y. Reads P K before y v) (sym end) reads)
+pub one_stuck : {A B : Type 0} {sort : Sort} {value : ℕ → Meaning sort → A} {other : ℕ → Meaning sort → B} {old new : Spot} → Stuck (one sort value) old new → Stuck (one sort other) old new
+one_stuck {sort = sort} {value = value} {other = other} {old = old} {new = new} r =
+    let b = one_is r.begins in
+    record {
+      text = r.text;
+      whole = r.whole;
+      place = r.place;
+      more = r.more;
+      value = other old.at b.0;
+      begins = subst (λ (y : List Lexeme). Says (one sort other) old.at y (other old.at b.0)) (sym b.1) (says_one old.at b.0);
+      dead = λ x w s z d st e al.
+          let d' = one_is d in
+          r.dead x (value old.at d'.0) s z (subst (λ (y : List Lexeme). Says (one sort value) old.at y (value old.at d'.0)) (sym d'.1) (says_one old.at d'.0)) st e al;
+    }
 
--- the place where nothing was taken
-pub same_place : (p q : ℕ) {before middle : List Lexeme} → middle ≡ before → q + length middle ≡ p + length before → q ≡ p
-same_place p q same at = omega (arith, at, ap length same)
+-- the exit of a `?`, where a text of the form begins here
+pub passed_next : {A B : Type 0} (g : Form A) (h : Form B) (old middle new : Spot) (r : Result (Option A) Refusal) (e : Refusal) →
+    IsErrAnd r (λ y. y ≡ e) → ExactAt h middle new (Err e) → Fronts (first g) old.rest → (Stuck h middle new → Stuck g old new) → ExactNextAt g old new r
+passed_next g h old middle new (Ok v) e same exact front goes_on = absurd same
+passed_next g h old middle new (Err refusal.Syntax) e same exact front goes_on = (front, goes_on (subst (λ y. ExactAt h middle new (Err y)) (sym same) exact))
+passed_next g h old middle new (Err refusal.Memory) e same exact front goes_on = tt
 
-pub lacks_here : (t : Lexeme) {before middle : List Lexeme} → middle ≡ before → Lacks t middle → Lacks t before
-lacks_here t same lacks = subst (λ y. Lacks t y) same lacks
+pub fronts_one : {set : List (List ℕ)} {x : List Lexeme} (other : List (List ℕ)) → Fronts set x → Fronts (set ++ other) x
+fronts_one {set} other front = record { token = front.token; tail = front.tail; whole = front.whole; is = has_left set other front.token front.is }
 
--- a step by one token reads that token
-pub taken_exact : (t : Lexeme) (K : Lexeme → Bool) (before after : List Lexeme) (r : Result (Unit {0}) Refusal) →
-    Taken (λ (u : Unit {0}). t) before after r → Exact (Led t (Nil tt)) K before after r
-taken_exact t K before after (Ok v) taken = left_read is_in_self (left_led taken) reads_nil
-taken_exact t K before after (Err refusal.Syntax) taken = subst (λ y. Stuck (Led t (Nil tt)) K before y) (sym taken.0) (stuck_led ([], tt, (refl, refl)) (taken.1 tt))
-taken_exact t K before after (Err refusal.Memory) taken = tt
+pub fronts_other : {set : List (List ℕ)} {old new : Spot} (before : List (List ℕ)) → Stays before old new → Fronts set new.rest → Fronts (before ++ set) old.rest
+fronts_other {set} {old} {new} before stays front =
+    record { token = front.token; tail = front.tail; whole = ap (λ w. w.rest) (sym stays.same) ∙ front.whole; is = has_right before set front.token front.is }
+
+-- the exit of a `?` in a loop, behind the next text
+pub passed_loop : {A E : Type 0} (g : Form A) (h : Form E) (old middle new : Spot) (r : Result A Refusal) (e : Refusal) →
+    IsErrAnd r (λ y. y ≡ e) → ExactNextAt h middle new (Err e) → (Fronts (first h) middle.rest → Stuck h middle new → Stuck g old new) → ExactAt g old new r
+passed_loop g h old middle new (Ok v) e same exact goes_on = absurd same
+passed_loop g h old middle new (Err refusal.Syntax) e same exact goes_on =
+    let both = subst (λ y. ExactNextAt h middle new (Err y)) (sym same) exact in goes_on both.0 both.1
+passed_loop g h old middle new (Err refusal.Memory) e same exact goes_on = tt
+
+pub next_some : {A : Type 0} (g : Form A) (old new : Spot) (o : Option A) (v : A) → o ≡ Some v → ExactNextAt g old new (Ok o) → Fronts (first g) old.rest × Reads g old new v
+next_some g old new o v is exact = subst (λ x. ExactNextAt g old new (Ok x)) is exact
+
+pub next_none : {A : Type 0} (g : Form A) (old new : Spot) (o : Option A) → o ≡ None → ExactNextAt g old new (Ok o) → Stays (first g) old new
+next_none g old new o is exact = subst (λ x. ExactNextAt g old new (Ok x)) is exact

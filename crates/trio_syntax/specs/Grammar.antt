@@ -1,104 +1,239 @@
 -- The grammar of specification texts: which tokens, from a place on, are which tree.
-use Rattle.std.specs.Prelude.{ℕ, ◌+◌, true, false, List, [], ◌∷◌, ◌++◌, length, Option, None, Some}
+use Rattle.std.specs.Prelude.{ℕ, zero, suc, Bool, true, false, List, [], ◌∷◌, Option, None, Some}
+use Rattle.trio_base.specs.declared.operators.Rel.{Rel}
 use Rattle.trio_text.specs.declared.lexeme.Lexeme.{Lexeme}
-use Rattle.trio_text.specs.declared.lexeme.Lexeme.TheVariants as lexeme
-use Rattle.trio_text.specs.declared.token.Reserved.TheVariants as reserved
-use Rattle.trio_text.specs.declared.token.Symbol.TheVariants as symbol
-use Rattle.trio_syntax.specs.declared.tree.TermTree.{TermTree}
-use Rattle.trio_syntax.specs.declared.tree.TermTree.TheVariants as term
-use Rattle.trio_syntax.specs.declared.tree.FormulaTree.{FormulaTree}
-use Rattle.trio_syntax.specs.declared.tree.FormulaTree.TheVariants as formula
-use Rattle.trio_syntax.specs.declared.tree.ItemTree.{ItemTree}
-use Rattle.trio_syntax.specs.declared.tree.AxiomTree.{AxiomTree}
+use Rattle.trio_text.specs.declared.token.Reserved.{Reserved}
+use Rattle.trio_text.specs.declared.token.Reserved.TheVariants as words
+use Rattle.trio_text.specs.declared.token.Symbol.{Symbol}
+use Rattle.trio_text.specs.declared.token.Symbol.TheVariants as signs
+use Rattle.trio_syntax.specs.declared.tree.Mention.{Mention}
 use Rattle.trio_syntax.specs.declared.tree.Written.{Written}
+use Rattle.trio_syntax.specs.declared.tree.TermTree.{TermTree}
+use Rattle.trio_syntax.specs.declared.tree.TermShape.TheVariants as shape
+use Rattle.trio_syntax.specs.declared.tree.PartTree.{PartTree}
+use Rattle.trio_syntax.specs.declared.tree.RefTree.{RefTree}
+use Rattle.trio_syntax.specs.declared.tree.RefTree.TheVariants as ref_to
+use Rattle.trio_syntax.specs.declared.tree.FormulaTree.{FormulaTree}
+use Rattle.trio_syntax.specs.declared.tree.FormulaTree.TheVariants as formulas
+use Rattle.trio_syntax.specs.declared.tree.IntTree.{IntTree}
+use Rattle.trio_syntax.specs.declared.tree.ValuesTree.{ValuesTree}
+use Rattle.trio_syntax.specs.declared.tree.ValuesTree.TheVariants as values
+use Rattle.trio_syntax.specs.declared.tree.DeclarationTree.{DeclarationTree}
+use Rattle.trio_syntax.specs.declared.tree.DeclarationTree.TheVariants as declared
+use Rattle.trio_syntax.specs.declared.tree.ClaimTree.{ClaimTree}
 use Rattle.trio_syntax.specs.declared.tree.SpecTree.{SpecTree}
 use Rattle.trio_syntax.specs.Reading.{Language}
+use Rattle.trio_syntax.specs.Forms.{Sort, Meaning, sign, word, number, name, relation, adding, arrow, truth, quantifier, one_operator, far_operator, pair_operator, item_kind, claim_kind}
+use Rattle.trio_syntax.specs.Forms.{Row, formula, disj, conj, unary, primary, term, summand, factor, basic, Tree}
+use Rattle.trio_syntax.specs.Forms.{Form, empty, one, row, seq, either, many, Under}
 
-mutual
-  -- term = [ - ] factor
-  pub data IsTerm : ℕ → List Lexeme → TermTree → Type 0 where
-    unsigned : {p : ℕ} {x : List Lexeme} {t : TermTree} → IsFactor p x t → IsTerm p x t
-    minus : {p : ℕ} {x : List Lexeme} {t : TermTree} → IsFactor (p + 1) x t → IsTerm p (lexeme.Sign symbol.Minus ∷ x) (term.Minus (p + 1) t)
+-- a symbol, a word, a number and a name, the last two with their places
+abbrev pub a_sign : Symbol → Form (Unit {0})
+a_sign s = one (sign s) (λ p m. m)
 
-  -- factor = number, or `true`, or `false`, or name, or [ term ]
-  pub data IsFactor : ℕ → List Lexeme → TermTree → Type 0 where
-    number : {p n : ℕ} → IsFactor p (lexeme.Number n ∷ []) (term.Number n p)
-    true_ : {p : ℕ} → IsFactor p (lexeme.Word reserved.True ∷ []) (term.Truth true)
-    false_ : {p : ℕ} → IsFactor p (lexeme.Word reserved.False ∷ []) (term.Truth false)
-    named : {p : ℕ} {name : List ℕ} → IsFactor p (lexeme.Name name ∷ []) (term.Named name p)
-    square : {p : ℕ} {x : List Lexeme} {t : TermTree} → IsTerm (p + 1) x t →
-        IsFactor p (lexeme.Sign symbol.LeftSquare ∷ x ++ lexeme.Sign symbol.RightSquare ∷ []) t
+abbrev pub a_number : Form Written
+a_number = one number (λ p n. record { number = n; place = p })
 
--- one part is itself
+abbrev pub a_name : Form Mention
+a_name = one name (λ p n. record { name = n; place = p })
+
+-- a word, a token of another sort
+abbrev pub a_word : Reserved → Form (Unit {0})
+a_word w = one (word w) (λ p m. m)
+
+abbrev pub a : (sort : Sort) → Form (Meaning sort)
+a sort = one sort (λ p m. m)
+
+-- two texts, which stand for a pair
+abbrev pub both : {A B : Type 0} → Form A → Form B → Form (A × B)
+both g h = seq g h (λ p v w. (v, w))
+
+-- what stands behind a symbol, and before one
+abbrev pub behind : {A : Type 0} → Symbol → Form A → Form A
+behind s g = seq (a_sign s) g (λ p u v. v)
+
+abbrev pub before : {A : Type 0} → Form A → Symbol → Form A
+before g s = seq g (a_sign s) (λ p v u. v)
+
+-- ( g )
+abbrev pub round : {A : Type 0} → Form A → Form A
+round g = behind signs.LeftRound (before g signs.RightRound)
+
+-- g { sign g }
+abbrev pub listed : {A : Type 0} → Symbol → Form A → Form (List A)
+listed s g = seq g (many (behind s g)) (λ p v vs. v ∷ vs)
+
+-- [ g ]
+abbrev pub optional : {A : Type 0} → Form (Option A) → Form (Option A)
+optional g = either g (empty None)
+
+-- [ - ]: whether it is there
+abbrev pub signed : Form Bool
+signed = either (one (sign signs.Minus) (λ p u. true)) (empty false)
+
+-- A number is itself, or the one side of a product.
+abbrev pub product : ℕ → Written → Option TermTree → TermTree
+product p n None = record { place = p; shape = shape.Number n }
+product p n (Some t) = record { place = p; shape = shape.Times n t }
+
+-- A name alone, or with arguments.
+abbrev pub named : ℕ → Mention → Option (List TermTree) → TermTree
+named p m None = record { place = p; shape = shape.Named m }
+named p m (Some ts) = record { place = p; shape = shape.Call m ts }
+
+-- One summand without a sign is itself; every other term is a sum.
+abbrev pub sum : ℕ → Bool → TermTree → List PartTree → TermTree
+sum p false t [] = t
+sum p minus t parts = record { place = p; shape = shape.Sum (record { minus = minus; term = t } ∷ parts) }
+
+-- A term alone, or a comparison.
+abbrev pub compared : TermTree → Option (Rel × ℕ × TermTree) → FormulaTree
+compared t None = formulas.Lone t
+compared t (Some r) = formulas.Compare r.0 r.1 t r.2
+
+-- One part is itself.
 abbrev pub and_of : List FormulaTree → FormulaTree
 and_of (f ∷ []) = f
-and_of fs = formula.And fs
+and_of fs = formulas.And fs
 
 abbrev pub or_of : List FormulaTree → FormulaTree
 or_of (f ∷ []) = f
-or_of fs = formula.Or fs
+or_of fs = formulas.Or fs
 
-mutual
-  -- formula = disj [ -> disj ]
-  pub data IsFormula : ℕ → List Lexeme → FormulaTree → Type 0 where
-    alone : {p : ℕ} {x : List Lexeme} {fs : List FormulaTree} → IsDisj p x fs → IsFormula p x (or_of fs)
-    implies : {p : ℕ} {x y : List Lexeme} {fs gs : List FormulaTree} → IsDisj p x fs → IsDisj (p + length x + 1) y gs →
-        IsFormula p (x ++ lexeme.Sign symbol.Arrow ∷ y) (formula.Implies (or_of fs) (or_of gs))
+abbrev pub arrowed : Bool → FormulaTree → FormulaTree → FormulaTree
+arrowed false f g = formulas.Implies f g
+arrowed true f g = formulas.Iff f g
 
-  -- disj = conj { | conj }, by its parts
-  pub data IsDisj : ℕ → List Lexeme → List FormulaTree → Type 0 where
-    one_conj : {p : ℕ} {x : List Lexeme} {fs : List FormulaTree} → IsConj p x fs → IsDisj p x (and_of fs ∷ [])
-    or : {p : ℕ} {x y : List Lexeme} {fs gs : List FormulaTree} → IsConj p x fs → IsDisj (p + length x + 1) y gs →
-        IsDisj p (x ++ lexeme.Sign symbol.Or ∷ y) (and_of fs ∷ gs)
+abbrev pub connected : List FormulaTree → Option (Bool × List FormulaTree) → FormulaTree
+connected fs None = or_of fs
+connected fs (Some r) = arrowed r.0 (or_of fs) (or_of r.1)
 
-  -- conj = unary { & unary }, by its parts
-  pub data IsConj : ℕ → List Lexeme → List FormulaTree → Type 0 where
-    one_unary : {p : ℕ} {x : List Lexeme} {f : FormulaTree} → IsUnary p x f → IsConj p x (f ∷ [])
-    and : {p : ℕ} {x y : List Lexeme} {f : FormulaTree} {gs : List FormulaTree} → IsUnary p x f → IsConj (p + length x + 1) y gs →
-        IsConj p (x ++ lexeme.Sign symbol.And ∷ y) (f ∷ gs)
+-- ref = bool, or name
+abbrev pub ref : Form RefTree
+ref = either (one (word words.Bool) (λ p u. ref_to.Bool)) (one name (λ p n. ref_to.Named (record { name = n; place = p })))
 
-  -- unary = [ ! ] primary
-  pub data IsUnary : ℕ → List Lexeme → FormulaTree → Type 0 where
-    plain : {p : ℕ} {x : List Lexeme} {f : FormulaTree} → IsPrimary p x f → IsUnary p x f
-    negated : {p : ℕ} {x : List Lexeme} {f : FormulaTree} → IsPrimary (p + 1) x f → IsUnary p (lexeme.Sign symbol.Not ∷ x) (formula.Not f)
+-- the rest of a quantifier: name : ref ( formula )
+abbrev pub bound : Form (Mention × (RefTree × FormulaTree))
+bound = both a_name (behind signs.Colon (both ref (round (row formula))))
 
-  -- primary = ( formula ), or Dist ( formula , term ), or term
-  pub data IsPrimary : ℕ → List Lexeme → FormulaTree → Type 0 where
-    round : {p : ℕ} {x : List Lexeme} {f : FormulaTree} → IsFormula (p + 1) x f →
-        IsPrimary p (lexeme.Sign symbol.LeftRound ∷ x ++ lexeme.Sign symbol.RightRound ∷ []) f
-    distance : {p : ℕ} {x y : List Lexeme} {f : FormulaTree} {t : TermTree} → IsFormula (p + 2) x f → IsTerm (p + length x + 3) y t →
-        IsPrimary p (lexeme.Word reserved.Dist ∷ lexeme.Sign symbol.LeftRound ∷ x ++ lexeme.Sign symbol.Comma ∷ y ++ lexeme.Sign symbol.RightRound ∷ [])
-        (formula.Dist f (p + length x + 3) t)
-    atom : {p : ℕ} {x : List Lexeme} {t : TermTree} → IsTerm p x t → IsPrimary p x (formula.Atom p t)
+-- the rest of an operator with a distance: ( formula , term )
+abbrev pub distant : Form (FormulaTree × TermTree)
+distant = behind signs.LeftRound (both (before (row formula) signs.Comma) (before (row term) signs.RightRound))
 
--- item = ( item or input ) name : bool ;
-pub data IsItem : ℕ → List Lexeme → ItemTree → Type 0 where
-  item : {p : ℕ} {name : List ℕ} →
-      IsItem p (lexeme.Word reserved.Item ∷ lexeme.Name name ∷ lexeme.Sign symbol.Colon ∷ lexeme.Word reserved.Bool ∷ lexeme.Sign symbol.Semi ∷ [])
-      (record { input = false; name = name; place = p + 1 })
-  input : {p : ℕ} {name : List ℕ} →
-      IsItem p (lexeme.Word reserved.Input ∷ lexeme.Name name ∷ lexeme.Sign symbol.Colon ∷ lexeme.Word reserved.Bool ∷ lexeme.Sign symbol.Semi ∷ [])
-      (record { input = true; name = name; place = p + 1 })
+-- the rest of an operator on two formulas: ( formula , formula )
+abbrev pub paired : Form (FormulaTree × FormulaTree)
+paired = behind signs.LeftRound (both (before (row formula) signs.Comma) (before (row formula) signs.RightRound))
+
+-- a quantifier, and the operators: on one formula, with a distance, and on two formulas
+abbrev pub quantified : Form FormulaTree
+quantified = seq (a quantifier) bound (λ p q r. formulas.Quantified q r.0 r.1.0 r.1.1)
+
+abbrev pub one_operation : Form FormulaTree
+one_operation = seq (a one_operator) (round (row formula)) (λ p op f. formulas.One op f)
+
+abbrev pub far_operation : Form FormulaTree
+far_operation = seq (a far_operator) distant (λ p op r. formulas.Far op r.0 r.1)
+
+abbrev pub pair_operation : Form FormulaTree
+pair_operation = seq (a pair_operator) paired (λ p op r. formulas.Pair op r.0 r.1)
+
+-- atom = term [ rel term ]
+abbrev pub atom : Form FormulaTree
+atom = seq (row term) (optional (seq (a relation) (row term) (λ p r t. Some (r, p, t)))) (λ p t r. compared t r)
+
+-- [ ( term { , term } ) ]
+abbrev pub arguments : Form (Option (List TermTree))
+arguments = optional (seq (a_sign signs.LeftRound) (before (listed signs.Comma (row term)) signs.RightRound) (λ p u ts. Some ts))
+
+-- { ( + or - ) summand }
+abbrev pub more_summands : Form (List PartTree)
+more_summands = many (seq (a adding) (row summand) (λ p minus t. record { minus = minus; term = t }))
+
+abbrev pub body : (r : Row) → Form (Tree r)
+-- formula = disj [ ( -> or <-> ) disj ]
+body formula = seq (row disj) (optional (seq (a arrow) (row disj) (λ p both gs. Some (both, gs)))) (λ p fs r. connected fs r)
+-- disj = conj { | conj }
+body disj = seq (row conj) (many (seq (a_sign signs.Or) (row conj) (λ p u fs. and_of fs))) (λ p fs gs. and_of fs ∷ gs)
+-- conj = unary { & unary }
+body conj = listed signs.And (row unary)
+-- unary = [ ! ] primary
+body unary = either (seq (a_sign signs.Not) (row primary) (λ p u f. formulas.Not f)) (row primary)
+-- primary = ( formula ), or quantifier, or operator, or atom
+body primary = either (round (row formula)) (either quantified (either one_operation (either far_operation (either pair_operation atom))))
+-- term = [ - ] summand { ( + or - ) summand }
+body term = seq signed (both (row summand) more_summands) (λ p minus r. sum p minus r.0 r.1)
+-- summand = number [ * factor ], or what else is a factor
+body summand = either (seq a_number (optional (seq (a_sign signs.Times) (row factor) (λ p u t. Some t))) product) (row basic)
+-- factor = number, or what else is a factor
+body factor = either (one number (λ p n. record { place = p; shape = shape.Number (record { number = n; place = p }) })) (row basic)
+-- what else is a factor: true, or false, or [ term ], or name, or name ( term { , term } )
+body basic =
+    either (one truth (λ p b. record { place = p; shape = shape.Truth b }))
+    (either (seq (a_sign signs.LeftSquare) (before (row term) signs.RightSquare) (λ p u t. record { place = p; shape = t.shape }))
+    (seq a_name arguments named))
+
+-- int = [ - ] number
+abbrev pub int : Form IntTree
+int = seq signed a_number (λ p minus n. record { minus = minus; number = n })
+
+-- { name { , name } }, or int .. int
+abbrev pub domain_values : Form ValuesTree
+domain_values =
+    either (seq (a_sign signs.LeftBrace) (before (listed signs.Comma a_name) signs.RightBrace) (λ p u ws. values.Words ws))
+    (seq int (behind signs.Span int) (λ p least greatest. values.Range least greatest))
+
+-- domain name = values ;
+abbrev pub domain_rest : Form (Mention × ValuesTree)
+domain_rest = both a_name (behind signs.Eq (before domain_values signs.Semi))
+
+abbrev pub domain : Form DeclarationTree
+domain = seq (a_word words.Domain) domain_rest (λ p u r. declared.Domain (record { name = r.0; values = r.1 }))
+
+-- [ ( ref { , ref } ) ]
+abbrev pub refs : Form (List RefTree)
+refs = either (round (listed signs.Comma ref)) (empty [])
+
+-- ( item or input ) name [ ( ref { , ref } ) ] : ref ;
+abbrev pub item_rest : Form (Mention × (List RefTree × RefTree))
+item_rest = both a_name (both refs (behind signs.Colon (before ref signs.Semi)))
+
+abbrev pub item : Form DeclarationTree
+item = seq (a item_kind) item_rest (λ p input r. declared.Item (record { input = input; name = r.0; args = r.1.0; value = r.1.1 }))
 
 -- [ at number ]
-pub data IsAt : ℕ → List Lexeme → Option Written → Type 0 where
-  everywhere : {p : ℕ} → IsAt p [] None
-  at : {p n : ℕ} → IsAt p (lexeme.Word reserved.At ∷ lexeme.Number n ∷ []) (Some (record { number = n; place = p + 1 }))
+abbrev pub instant : Form (Option Written)
+instant = optional (seq (a_word words.At) a_number (λ p u n. Some n))
 
--- axiom = axiom name [ at number ] : formula ;
-pub data IsAxiom : ℕ → List Lexeme → AxiomTree → Type 0 where
-  axiom_ : {p : ℕ} {name : List ℕ} {x y : List Lexeme} {k : Option Written} {f : FormulaTree} → IsAt (p + 2) x k →
-      IsFormula (p + length x + 3) y f →
-      IsAxiom p (lexeme.Word reserved.Axiom ∷ lexeme.Name name ∷ x ++ lexeme.Sign symbol.Colon ∷ y ++ lexeme.Sign symbol.Semi ∷ [])
-      (record { name = name; place = p + 1; at = k; formula = f })
+-- ( axiom or goal ) name [ at number ] : formula ;
+abbrev pub claim_rest : Form (Mention × (Option Written × FormulaTree))
+claim_rest = both a_name (both instant (behind signs.Colon (before (row formula) signs.Semi)))
 
--- { part }
-pub data Many {A : Type 0} (P : ℕ → Language A) : ℕ → List Lexeme → List A → Type 0 where
-  none : {p : ℕ} → Many P p [] []
-  more : {p : ℕ} {x y : List Lexeme} {v : A} {vs : List A} → P p x v → Many P (p + length x) y vs → Many P p (x ++ y) (v ∷ vs)
+abbrev pub claim : Form ClaimTree
+claim = seq (a claim_kind) claim_rest (λ p goal r. record { goal = goal; name = r.0; at = r.1.0; formula = r.1.1 })
 
--- spec = time number ; { item } { axiom }
-pub data IsSpec : List Lexeme → SpecTree → Type 0 where
-  spec : {n : ℕ} {x y : List Lexeme} {items : List ItemTree} {axioms : List AxiomTree} → Many IsItem 3 x items →
-      Many IsAxiom (length x + 3) y axioms →
-      IsSpec (lexeme.Word reserved.Time ∷ lexeme.Number n ∷ lexeme.Sign symbol.Semi ∷ x ++ y) (record { instants = n; items = items; axioms = axioms })
+-- { domain or item } { axiom or goal }
+abbrev pub declarations : Form (List DeclarationTree)
+declarations = many (either item domain)
+
+abbrev pub claims : Form (List ClaimTree)
+claims = many claim
+
+-- spec = time number ; { domain or item } { axiom or goal }
+abbrev pub spec : Form SpecTree
+spec =
+    seq (a_word words.Time) (both a_number (behind signs.Semi (both declarations claims)))
+    (λ p u r. record { instants = r.0; declarations = r.1.0; claims = r.1.1 })
+
+-- the texts of a row in which so many rows at most stand inside one another
+unfoldable pub rows_within : ℕ → (r : Row) → ℕ → Language (Tree r)
+rows_within zero r p x v = ⊥
+rows_within (suc n) r p x v = Under (rows_within n) (body r) p x v
+
+-- from this place on, the tokens are a text of the form and stand for this value
+pub record Says {A : Type 0} (g : Form A) (p : ℕ) (tokens : List Lexeme) (v : A) : Type 0 where
+  pub depth : ℕ
+  pub reading : Under (rows_within depth) g p tokens v
+
+-- the tokens are this specification
+abbrev pub IsSpec : List Lexeme → SpecTree → Type 0
+IsSpec tokens tree = Says spec 0 tokens tree

@@ -1,7 +1,8 @@
 pub mod Reading
+pub mod Words
+pub mod Forms
 pub mod Grammar
 pub mod Depth
 pub mod Answer
 pub mod Exact
-pub mod Parts
 pub mod Shape

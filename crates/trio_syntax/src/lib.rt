@@ -12,11 +12,15 @@ mod statement;
 mod steps;
 mod term;
 mod tree;
+mod words;
 
 pub use fault::TreeFault;
 pub use laws::{
-    declared_names_are_names, faulty_tokens_are_no_tree, tokens_are_one_tree,
-    tokens_have_one_fault, trees_have_parts,
+    faulty_tokens_are_no_tree, tokens_are_one_tree, tokens_have_a_tree_or_a_fault,
+    tokens_have_one_fault, trees_are_formed,
 };
 pub use reader::read_tree;
-pub use tree::{AxiomTree, FormulaTree, ItemTree, SpecTree, TermTree, Written};
+pub use tree::{
+    ClaimTree, DeclarationTree, DomainTree, FormulaTree, IntTree, ItemTree, Mention, PartTree,
+    Quantifier, RefTree, SpecTree, TermShape, TermTree, ValuesTree, Written,
+};

@@ -1,110 +1,199 @@
 //! The rows of statements, and the whole text.
-ghost use Rattle.std.specs.Prelude.{◌≡◌, ◌+◌, length};
-ghost use Rattle.trio_syntax.specs.Grammar.{IsItem, IsAt, IsAxiom, Many, IsSpec};
-ghost use Rattle.trio_syntax.specs.Exact.{Exact};
-ghost use Rattle.trio_syntax.specs.Parts.{begins_at, begins_item, begins_axiom, after_spec, nothing, IsBool, IsItemBody, IsAxiomBody};
+ghost use Rattle.trio_syntax.specs.Forms.{either};
+ghost use Rattle.trio_syntax.specs.Grammar.{a_name, listed, ref, refs, int, domain_values, domain_rest, domain, item_rest, item, declarations, instant, claim_rest, claim, claims, spec};
+ghost use Rattle.trio_syntax.specs.Exact.{Exact, ExactNext};
 
 use crate::parser::Parser;
 use crate::refusal::Refusal;
 use crate::steps::append;
-use crate::tree::{AxiomTree, ItemTree, SpecTree, Written};
+use crate::tree::{
+    ClaimTree, DeclarationTree, DomainTree, FormulaTree, IntTree, ItemTree, Mention, RefTree,
+    SpecTree, ValuesTree, Written,
+};
 use trio_base::List;
 use trio_text::{Reserved, Symbol};
 
 impl<'a> Parser<'a> {
-    /// What stands behind `item` or `input`: name : bool ;
-    fn item_body(&mut self, input: bool) -> Result<ItemTree, Refusal>
-        ensures exact { Exact (IsItemBody input self.old.at) nothing self.old.rest.now self.new.rest.now result }
-        ensures at { self.new.at + length self.new.rest.now ≡ self.old.at + length self.old.rest.now }
+    /// int = [ - ] number
+    fn int(&mut self) -> Result<IntTree, Refusal>
+        ensures { Exact int self.old self.new result }
     {
-        let place = self.at;
-        let name = self.name()?;
-        self.bool_kind()?;
-        Ok(ItemTree { input, name, place })
+        let minus = self.takes_sign(Symbol::Minus);
+        let number = self.number()?;
+        Ok(IntTree { minus, number })
     }
 
-    /// `: bool ;`
-    fn bool_kind(&mut self) -> Result<(), Refusal>
-        ensures exact { Exact IsBool nothing self.old.rest.now self.new.rest.now result }
-        ensures at { self.new.at + length self.new.rest.now ≡ self.old.at + length self.old.rest.now }
+    /// name { , name }
+    fn names(&mut self) -> Result<List<Mention>, Refusal>
+        ensures { Exact (listed Symbol.Comma a_name) self.old self.new result }
     {
-        self.expect_sign(Symbol::Colon)?;
-        self.expect_word(Reserved::Bool)?;
-        self.expect_sign(Symbol::Semi)
-    }
-
-    /// { item }
-    fn items(&mut self) -> Result<List<ItemTree>, Refusal>
-        ensures exact { Exact (Many IsItem self.old.at) begins_item self.old.rest.now self.new.rest.now result }
-        ensures at { self.new.at + length self.new.rest.now ≡ self.old.at + length self.old.rest.now }
-    {
-        let mut items = List::new(self.alloc);
-        while let Some(input) = self.takes_item_word() {
-            let item = self.item_body(input)?;
-            append(&mut items, item)?;
+        let first = self.name()?;
+        let mut names = List::new(self.alloc);
+        append(&mut names, first)?;
+        while self.takes_sign(Symbol::Comma) {
+            let next = self.name()?;
+            append(&mut names, next)?;
         }
-        Ok(items)
+        Ok(names)
+    }
+
+    /// { name { , name } }, or int .. int
+    fn values(&mut self) -> Result<ValuesTree, Refusal>
+        ensures { Exact domain_values self.old self.new result }
+    {
+        if self.takes_sign(Symbol::LeftBrace) {
+            let names = self.names()?;
+            self.sign(Symbol::RightBrace)?;
+            return Ok(ValuesTree::Words(names));
+        }
+        let least = self.int()?;
+        self.sign(Symbol::Span)?;
+        let greatest = self.int()?;
+        Ok(ValuesTree::Range(least, greatest))
+    }
+
+    /// What stands behind `domain`: name = values ;
+    fn domain_rest(&mut self) -> Result<(Mention, ValuesTree), Refusal>
+        ensures { Exact domain_rest self.old self.new result }
+    {
+        let name = self.name()?;
+        self.sign(Symbol::Eq)?;
+        let values = self.values()?;
+        self.sign(Symbol::Semi)?;
+        Ok((name, values))
+    }
+
+    /// ref { , ref }
+    fn ranges(&mut self) -> Result<List<RefTree>, Refusal>
+        ensures { Exact (listed Symbol.Comma ref) self.old self.new result }
+    {
+        let first = self.reference()?;
+        let mut ranges = List::new(self.alloc);
+        append(&mut ranges, first)?;
+        while self.takes_sign(Symbol::Comma) {
+            let next = self.reference()?;
+            append(&mut ranges, next)?;
+        }
+        Ok(ranges)
+    }
+
+    /// [ ( ref { , ref } ) ]
+    fn parameters(&mut self) -> Result<List<RefTree>, Refusal>
+        ensures { Exact refs self.old self.new result }
+    {
+        if !self.takes_sign(Symbol::LeftRound) {
+            return Ok(List::new(self.alloc));
+        }
+        let ranges = self.ranges()?;
+        self.sign(Symbol::RightRound)?;
+        Ok(ranges)
+    }
+
+    /// What stands behind `item` or `input`: name [ ( ref { , ref } ) ] : ref ;
+    fn item_rest(&mut self) -> Result<(Mention, (List<RefTree>, RefTree)), Refusal>
+        ensures { Exact item_rest self.old self.new result }
+    {
+        let name = self.name()?;
+        let args = self.parameters()?;
+        self.sign(Symbol::Colon)?;
+        let value = self.reference()?;
+        self.sign(Symbol::Semi)?;
+        Ok((name, (args, value)))
+    }
+
+    /// The next declaration, where one begins here.
+    fn next_declaration(&mut self) -> Result<Option<DeclarationTree>, Refusal>
+        ensures { ExactNext (either item domain) self.old self.new result }
+    {
+        if let Some(input) = self.takes_item_kind() {
+            let (name, (args, value)) = self.item_rest()?;
+            return Ok(Some(DeclarationTree::Item(ItemTree {
+                input,
+                name,
+                args,
+                value,
+            })));
+        }
+        if self.takes_word(Reserved::Domain) {
+            let (name, values) = self.domain_rest()?;
+            return Ok(Some(DeclarationTree::Domain(DomainTree { name, values })));
+        }
+        Ok(None)
+    }
+
+    /// { domain or item }
+    fn declarations(&mut self) -> Result<List<DeclarationTree>, Refusal>
+        ensures { Exact declarations self.old self.new result }
+    {
+        let mut declarations = List::new(self.alloc);
+        while let Some(declaration) = self.next_declaration()? {
+            append(&mut declarations, declaration)?;
+        }
+        Ok(declarations)
     }
 
     /// [ at number ]
     fn instant(&mut self) -> Result<Option<Written>, Refusal>
-        ensures exact { Exact (IsAt self.old.at) begins_at self.old.rest.now self.new.rest.now result }
-        ensures at { self.new.at + length self.new.rest.now ≡ self.old.at + length self.old.rest.now }
+        ensures { Exact instant self.old self.new result }
     {
         if !self.takes_word(Reserved::At) {
             return Ok(None);
         }
-        let place = self.at;
         let number = self.number()?;
-        Ok(Some(Written { number, place }))
+        Ok(Some(number))
     }
 
-    /// What stands behind `axiom`: name [ at number ] : formula ;
-    fn axiom_body(&mut self) -> Result<AxiomTree, Refusal>
-        ensures exact { Exact (IsAxiomBody self.old.at) nothing self.old.rest.now self.new.rest.now result }
-        ensures at { self.new.at + length self.new.rest.now ≡ self.old.at + length self.old.rest.now }
+    /// What stands behind `axiom` or `goal`: name [ at number ] : formula ;
+    fn claim_rest(&mut self) -> Result<(Mention, (Option<Written>, FormulaTree)), Refusal>
+        ensures { Exact claim_rest self.old self.new result }
     {
-        let place = self.at;
         let name = self.name()?;
         let at = self.instant()?;
-        self.expect_sign(Symbol::Colon)?;
+        self.sign(Symbol::Colon)?;
         let formula = self.formula_until(Symbol::Semi)?;
-        Ok(AxiomTree {
+        Ok((name, (at, formula)))
+    }
+
+    /// The next axiom or goal, where one begins here.
+    fn next_claim(&mut self) -> Result<Option<ClaimTree>, Refusal>
+        ensures { ExactNext claim self.old self.new result }
+    {
+        let Some(goal) = self.takes_claim_kind() else {
+            return Ok(None);
+        };
+        let (name, (at, formula)) = self.claim_rest()?;
+        Ok(Some(ClaimTree {
+            goal,
             name,
-            place,
             at,
             formula,
-        })
+        }))
     }
 
-    /// { axiom }
-    fn axioms(&mut self) -> Result<List<AxiomTree>, Refusal>
-        ensures exact { Exact (Many IsAxiom self.old.at) begins_axiom self.old.rest.now self.new.rest.now result }
-        ensures at { self.new.at + length self.new.rest.now ≡ self.old.at + length self.old.rest.now }
+    /// { axiom or goal }
+    fn claims(&mut self) -> Result<List<ClaimTree>, Refusal>
+        ensures { Exact claims self.old self.new result }
     {
-        let mut axioms = List::new(self.alloc);
-        while self.takes_word(Reserved::Axiom) {
-            let axiom = self.axiom_body()?;
-            append(&mut axioms, axiom)?;
+        let mut claims = List::new(self.alloc);
+        while let Some(claim) = self.next_claim()? {
+            append(&mut claims, claim)?;
         }
-        Ok(axioms)
+        Ok(claims)
     }
 
-    /// spec = time number ; { item } { axiom }
+    /// spec = time number ; { domain or item } { axiom or goal }
     pub fn spec(&mut self) -> Result<SpecTree, Refusal>
-        requires { self.old.at ≡ 0 }
-        ensures exact { Exact IsSpec after_spec self.old.rest.now self.new.rest.now result }
-        ensures at { self.new.at + length self.new.rest.now ≡ self.old.at + length self.old.rest.now }
+        ensures { Exact spec self.old self.new result }
     {
-        self.expect_word(Reserved::Time)?;
+        self.word(Reserved::Time)?;
         let instants = self.number()?;
-        self.expect_sign(Symbol::Semi)?;
-        let items = self.items()?;
-        let axioms = self.axioms()?;
+        self.sign(Symbol::Semi)?;
+        let declarations = self.declarations()?;
+        let claims = self.claims()?;
         Ok(SpecTree {
             instants,
-            items,
-            axioms,
+            declarations,
+            claims,
         })
     }
 }

@@ -1,105 +1,175 @@
 //! Steps of the parser by one token.
-ghost use Rattle.std.specs.Prelude.{◌≡◌, ◌+◌, ℕ, List, ◌∷◌, ◌++◌, [], length, MatchOption, MatchResult};
+ghost use Rattle.std.specs.Prelude.{◌≡◌, ◌∷◌, ◌++◌, [], MatchResult};
 ghost use Rattle.std.specs.Bool.{OnTrue, OnFalse};
-ghost use Rattle.trio_syntax.specs.Exact.{Stops, Lacks, Taken};
-ghost use Rattle.trio_syntax.specs.Parts.{begins_item, item_word};
+ghost use Rattle.trio_syntax.specs.Forms.{sign, word, number, relation, adding, arrow, truth, quantifier, one_operator, far_operator, pair_operator, item_kind, claim_kind};
+ghost use Rattle.trio_syntax.specs.Grammar.{a_sign, a_word, a_number, a_name};
+ghost use Rattle.trio_syntax.specs.Exact.{spot, by_word, by_sign, tokens_of, Exact, Takes, Stays, FindsWord, FindsSign, Finds};
 
 use crate::parser::Parser;
 use crate::refusal::Refusal;
-use trio_base::{List, Name};
+use crate::tree::{Mention, Quantifier, Written};
+use crate::words::{
+    ADDING_SIGNS, ARROW_SIGNS, CLAIM_WORDS, FAR_WORDS, ITEM_WORDS, ONE_WORDS, PAIR_WORDS,
+    QUANTIFIER_WORDS, REL_SIGNS, TRUTH_WORDS,
+};
+use trio_base::{FarOp, List, OneOp, PairOp, Rel};
 use trio_text::{Lexeme, Reserved, Symbol};
 
-fn is_sign(token: &Lexeme, symbol: Symbol) -> bool
-    ensures same { OnTrue result (token.now ≡ Lexeme.Sign symbol) }
-    ensures other { OnFalse result (token.now ≡ Lexeme.Sign symbol → ⊥) }
+/// What a word stands for by a table.
+fn by_word<T: Copy>(table: &[(Reserved, T)], word: Reserved) -> Option<T>
+    ensures { result ≡ by_word table.now word }
 {
-    match token {
-        Lexeme::Sign(found) => *found == symbol,
-        _ => false,
+    for line in table {
+        if line.0.text() == word.text() {
+            return Some(line.1);
+        }
     }
+    None
 }
 
-fn is_word(token: &Lexeme, word: Reserved) -> bool
-    ensures same { OnTrue result (token.now ≡ Lexeme.Word word) }
-    ensures other { OnFalse result (token.now ≡ Lexeme.Word word → ⊥) }
+/// What a symbol stands for by a table.
+fn by_sign<T: Copy>(table: &[(Symbol, T)], symbol: Symbol) -> Option<T>
+    ensures { result ≡ by_sign table.now symbol }
 {
-    match token {
-        Lexeme::Word(found) => *found == word,
-        _ => false,
+    for line in table {
+        if line.0.text() == symbol.text() {
+            return Some(line.1);
+        }
     }
-}
-
-fn number_in(token: &Lexeme) -> Option<u32>
-    ensures { MatchOption result ((n : ℕ) → token.now ≡ Lexeme.Number n → ⊥) (λ n. token.now ≡ Lexeme.Number n) }
-{
-    match token {
-        Lexeme::Number(number) => Some(*number),
-        _ => None,
-    }
-}
-
-fn name_in(token: &Lexeme) -> Option<&Name>
-    ensures { MatchOption result ((name : List ℕ) → token.now ≡ Lexeme.Name name → ⊥) (λ name. token.now ≡ Lexeme.Name name.now) }
-{
-    match token {
-        Lexeme::Name(name) => Some(name),
-        _ => None,
-    }
+    None
 }
 
 impl<'a> Parser<'a> {
-    /// Takes the next token where it is this symbol.
-    pub fn takes_sign(&mut self, symbol: Symbol) -> bool
-        ensures taken { OnTrue result (self.old.rest.now ≡ Lexeme.Sign symbol ∷ self.new.rest.now) }
-        ensures left { OnFalse result ((self.new.rest.now ≡ self.old.rest.now) × Lacks (Lexeme.Sign symbol) self.old.rest.now) }
-        ensures at { self.new.at + length self.new.rest.now ≡ self.old.at + length self.old.rest.now }
+    /// Takes the next token where it is a word of the table, and says what it stands for.
+    fn takes_word_of<T: Copy>(&mut self, table: &[(Reserved, T)]) -> Option<T>
+        ensures { FindsWord table.now self.old self.new result }
     {
-        let Some((first, rest)) = self.rest.split_first() else {
-            return false;
+        let (first, rest) = self.rest.split_first()?;
+        let Lexeme::Word(found) = first else {
+            return None;
         };
-        if !is_sign(first, symbol) {
-            return false;
-        }
+        let meaning = by_word(table, *found)?;
         self.rest = rest;
         self.at += 1;
-        true
+        Some(meaning)
+    }
+
+    /// Takes the next token where it is a symbol of the table, and says what it stands for.
+    fn takes_sign_of<T: Copy>(&mut self, table: &[(Symbol, T)]) -> Option<T>
+        ensures { FindsSign table.now self.old self.new result }
+    {
+        let (first, rest) = self.rest.split_first()?;
+        let Lexeme::Sign(found) = first else {
+            return None;
+        };
+        let meaning = by_sign(table, *found)?;
+        self.rest = rest;
+        self.at += 1;
+        Some(meaning)
+    }
+
+    /// Takes the next token where it is this symbol.
+    pub fn takes_sign(&mut self, symbol: Symbol) -> bool
+        ensures taken { OnTrue result (Takes (sign symbol) tt (spot self.old) (spot self.new)) }
+        ensures left { OnFalse result (Stays (tokens_of (sign symbol)) (spot self.old) (spot self.new)) }
+    {
+        self.takes_sign_of(&[(symbol, ())]).is_some()
     }
 
     /// Takes the next token where it is this word.
-    pub fn takes_word(&mut self, word: Reserved) -> bool
-        ensures taken { OnTrue result (self.old.rest.now ≡ Lexeme.Word word ∷ self.new.rest.now) }
-        ensures left { OnFalse result ((self.new.rest.now ≡ self.old.rest.now) × Lacks (Lexeme.Word word) self.old.rest.now) }
-        ensures at { self.new.at + length self.new.rest.now ≡ self.old.at + length self.old.rest.now }
+    pub fn takes_word(&mut self, reserved: Reserved) -> bool
+        ensures taken { OnTrue result (Takes (word reserved) tt (spot self.old) (spot self.new)) }
+        ensures left { OnFalse result (Stays (tokens_of (word reserved)) (spot self.old) (spot self.new)) }
     {
-        let Some((first, rest)) = self.rest.split_first() else {
-            return false;
-        };
-        if !is_word(first, word) {
-            return false;
-        }
-        self.rest = rest;
-        self.at += 1;
-        true
+        self.takes_word_of(&[(reserved, ())]).is_some()
+    }
+
+    /// Takes a relation.
+    pub fn takes_relation(&mut self) -> Option<Rel>
+        ensures { Finds relation self.old self.new result }
+    {
+        self.takes_sign_of(&REL_SIGNS)
+    }
+
+    /// Takes `+` or `-`, and says whether it was `-`.
+    pub fn takes_adding(&mut self) -> Option<bool>
+        ensures { Finds adding self.old self.new result }
+    {
+        self.takes_sign_of(&ADDING_SIGNS)
+    }
+
+    /// Takes an arrow, and says whether it goes both ways.
+    pub fn takes_arrow(&mut self) -> Option<bool>
+        ensures { Finds arrow self.old self.new result }
+    {
+        self.takes_sign_of(&ARROW_SIGNS)
+    }
+
+    /// Takes `true` or `false`.
+    pub fn takes_truth(&mut self) -> Option<bool>
+        ensures { Finds truth self.old self.new result }
+    {
+        self.takes_word_of(&TRUTH_WORDS)
+    }
+
+    /// Takes `all` or `ex`.
+    pub fn takes_quantifier(&mut self) -> Option<Quantifier>
+        ensures { Finds quantifier self.old self.new result }
+    {
+        self.takes_word_of(&QUANTIFIER_WORDS)
+    }
+
+    /// Takes an operator on one formula.
+    pub fn takes_one_operator(&mut self) -> Option<OneOp>
+        ensures { Finds one_operator self.old self.new result }
+    {
+        self.takes_word_of(&ONE_WORDS)
+    }
+
+    /// Takes an operator with a distance.
+    pub fn takes_far_operator(&mut self) -> Option<FarOp>
+        ensures { Finds far_operator self.old self.new result }
+    {
+        self.takes_word_of(&FAR_WORDS)
+    }
+
+    /// Takes an operator on two formulas.
+    pub fn takes_pair_operator(&mut self) -> Option<PairOp>
+        ensures { Finds pair_operator self.old self.new result }
+    {
+        self.takes_word_of(&PAIR_WORDS)
+    }
+
+    /// Takes `item` or `input`, and says whether it was `input`.
+    pub fn takes_item_kind(&mut self) -> Option<bool>
+        ensures { Finds item_kind self.old self.new result }
+    {
+        self.takes_word_of(&ITEM_WORDS)
+    }
+
+    /// Takes `axiom` or `goal`, and says whether it was `goal`.
+    pub fn takes_claim_kind(&mut self) -> Option<bool>
+        ensures { Finds claim_kind self.old self.new result }
+    {
+        self.takes_word_of(&CLAIM_WORDS)
     }
 
     /// Takes the next token where it is a number.
     pub fn takes_number(&mut self) -> Option<u32>
-        ensures cases { MatchOption result
-            ((self.new.rest.now ≡ self.old.rest.now) × ((n : ℕ) → Lacks (Lexeme.Number n) self.old.rest.now))
-            (λ n. self.old.rest.now ≡ Lexeme.Number n ∷ self.new.rest.now) }
-        ensures at { self.new.at + length self.new.rest.now ≡ self.old.at + length self.old.rest.now }
+        ensures { Finds number self.old self.new result }
     {
         let (first, rest) = self.rest.split_first()?;
-        let number = number_in(first)?;
+        let Lexeme::Number(found) = first else {
+            return None;
+        };
         self.rest = rest;
         self.at += 1;
-        Some(number)
+        Some(*found)
     }
 
     /// Takes the next token, which has to be this symbol.
-    pub fn expect_sign(&mut self, symbol: Symbol) -> Result<(), Refusal>
-        ensures taken { Taken (λ (u : Unit {0}). Lexeme.Sign symbol) self.old.rest.now self.new.rest.now result }
-        ensures at { self.new.at + length self.new.rest.now ≡ self.old.at + length self.old.rest.now }
+    pub fn sign(&mut self, symbol: Symbol) -> Result<(), Refusal>
+        ensures { Exact (a_sign symbol) self.old self.new result }
     {
         if self.takes_sign(symbol) {
             Ok(())
@@ -109,11 +179,10 @@ impl<'a> Parser<'a> {
     }
 
     /// Takes the next token, which has to be this word.
-    pub fn expect_word(&mut self, word: Reserved) -> Result<(), Refusal>
-        ensures taken { Taken (λ (u : Unit {0}). Lexeme.Word word) self.old.rest.now self.new.rest.now result }
-        ensures at { self.new.at + length self.new.rest.now ≡ self.old.at + length self.old.rest.now }
+    pub fn word(&mut self, reserved: Reserved) -> Result<(), Refusal>
+        ensures { Exact (a_word reserved) self.old self.new result }
     {
-        if self.takes_word(word) {
+        if self.takes_word(reserved) {
             Ok(())
         } else {
             Err(Refusal::Syntax)
@@ -121,47 +190,31 @@ impl<'a> Parser<'a> {
     }
 
     /// Takes the next token, which has to be a number.
-    pub fn number(&mut self) -> Result<u32, Refusal>
-        ensures taken { Taken Lexeme.Number self.old.rest.now self.new.rest.now result }
-        ensures at { self.new.at + length self.new.rest.now ≡ self.old.at + length self.old.rest.now }
+    pub fn number(&mut self) -> Result<Written, Refusal>
+        ensures { Exact a_number self.old self.new result }
     {
+        let place = self.at;
         match self.takes_number() {
-            Some(number) => Ok(number),
+            Some(number) => Ok(Written { number, place }),
             None => Err(Refusal::Syntax),
         }
     }
 
     /// Takes a copy of the next token's name; it has to be a name.
-    pub fn name(&mut self) -> Result<Name, Refusal>
-        ensures taken { Taken Lexeme.Name self.old.rest.now self.new.rest.now result }
-        ensures at { self.new.at + length self.new.rest.now ≡ self.old.at + length self.old.rest.now }
+    pub fn name(&mut self) -> Result<Mention, Refusal>
+        ensures { Exact a_name self.old self.new result }
     {
         let Some((first, rest)) = self.rest.split_first() else {
             return Err(Refusal::Syntax);
         };
-        let Some(name) = name_in(first) else {
+        let Lexeme::Name(found) = first else {
             return Err(Refusal::Syntax);
         };
-        let name = name.copy(self.alloc)?;
+        let name = found.copy(self.alloc)?;
+        let place = self.at;
         self.rest = rest;
         self.at += 1;
-        Ok(name)
-    }
-
-    /// Takes `item` or `input`, and says whether it was `input`.
-    pub fn takes_item_word(&mut self) -> Option<bool>
-        ensures cases { MatchOption result
-            ((self.new.rest.now ≡ self.old.rest.now) × Stops begins_item self.old.rest.now)
-            (λ input. self.old.rest.now ≡ item_word input ∷ self.new.rest.now) }
-        ensures at { self.new.at + length self.new.rest.now ≡ self.old.at + length self.old.rest.now }
-    {
-        if self.takes_word(Reserved::Item) {
-            return Some(false);
-        }
-        if self.takes_word(Reserved::Input) {
-            return Some(true);
-        }
-        None
+        Ok(Mention { name, place })
     }
 }
 

@@ -1,60 +1,142 @@
+//! The trees of specification texts. A place is the number of a token, from 0.
 use sqlite_items::Boxed;
-use trio_base::{List, Name};
+use trio_base::{FarOp, List, Name, OneOp, PairOp, Rel};
 
-/// A term as it is written. A place is the number of a token, from 0.
+/// A name as it is written, with its place.
 #[derive(Debug, Drop)]
-pub enum TermTree {
-    /// A number, and its place.
-    Number(u32, usize),
-    /// `false` or `true`.
-    Truth(bool),
-    /// A name, and its place.
-    Named(Name, usize),
-    /// `-` before a part, with the place of the part's first token.
-    Minus(usize, Boxed<TermTree>),
-}
-
-/// A formula as it is written.
-#[derive(Debug, Drop)]
-pub enum FormulaTree {
-    /// A term alone, with the place of its first token.
-    Atom(usize, TermTree),
-    Not(Boxed<FormulaTree>),
-    And(List<FormulaTree>),
-    Or(List<FormulaTree>),
-    Implies(Boxed<FormulaTree>, Boxed<FormulaTree>),
-    /// `Dist` of a formula by a term, with the place of the term's first token.
-    Dist(Boxed<FormulaTree>, usize, TermTree),
-}
-
-/// The declaration of an item, with the place of its name.
-#[derive(Debug, Drop)]
-pub struct ItemTree {
-    pub input: bool,
+pub struct Mention {
     pub name: Name,
     pub place: usize,
 }
 
-/// A number with its place.
+/// A number as it is written, with its place.
 #[derive(Clone, Copy, Debug, PartialEq, Eq)]
 pub struct Written {
     pub number: u32,
     pub place: usize,
 }
 
-/// An axiom, with the place of its name and the number behind `at`.
+/// An occurrence of a term, with the place of its first token: that of the `[` where it stands in brackets.
+#[cycle(term)]
 #[derive(Debug, Drop)]
-pub struct AxiomTree {
-    pub name: Name,
+pub struct TermTree {
     pub place: usize,
+    pub shape: TermShape,
+}
+
+/// What a term is. Brackets leave no trace.
+#[cycle(term)]
+#[derive(Debug, Drop)]
+pub enum TermShape {
+    Number(Written),
+    /// `false` or `true`.
+    Truth(bool),
+    /// A name alone.
+    Named(Mention),
+    /// A name with arguments, one or more.
+    Call(Mention, List<TermTree>),
+    /// Parts with their signs: one with `-`, or two and more.
+    Sum(List<PartTree>),
+    /// A number `*` a factor.
+    Times(Written, Boxed<TermTree>),
+}
+
+/// A part of a sum, with `-` before it or without; the term's place is that of the first token behind the sign.
+#[cycle(term)]
+#[derive(Debug, Drop)]
+pub struct PartTree {
+    pub minus: bool,
+    pub term: TermTree,
+}
+
+/// What an argument, a value or a variable ranges over: `bool`, or the domain of a name.
+#[derive(Debug, Drop)]
+pub enum RefTree {
+    Bool,
+    Named(Mention),
+}
+
+/// Whether a formula is to hold for all values or for some.
+#[derive(Clone, Copy, Debug, PartialEq, Eq)]
+pub enum Quantifier {
+    All,
+    Ex,
+}
+
+/// A formula as it is written. Brackets leave no trace.
+#[derive(Debug, Drop)]
+pub enum FormulaTree {
+    /// A term alone.
+    Lone(TermTree),
+    /// A relation of two terms, with its place.
+    Compare(Rel, usize, TermTree, TermTree),
+    Not(Boxed<FormulaTree>),
+    /// Two parts or more.
+    And(List<FormulaTree>),
+    /// Two parts or more.
+    Or(List<FormulaTree>),
+    Implies(Boxed<FormulaTree>, Boxed<FormulaTree>),
+    Iff(Boxed<FormulaTree>, Boxed<FormulaTree>),
+    /// A formula for all or some values of a variable.
+    Quantified(Quantifier, Mention, RefTree, Boxed<FormulaTree>),
+    /// An operator on one formula.
+    One(OneOp, Boxed<FormulaTree>),
+    /// An operator on a formula and a distance.
+    Far(FarOp, Boxed<FormulaTree>, TermTree),
+    /// An operator on two formulas.
+    Pair(PairOp, Boxed<FormulaTree>, Boxed<FormulaTree>),
+}
+
+/// A number with `-` before it or without.
+#[derive(Clone, Copy, Debug, PartialEq, Eq)]
+pub struct IntTree {
+    pub minus: bool,
+    pub number: Written,
+}
+
+/// The values of a domain: from the one number to the other, or words.
+#[derive(Debug, Drop)]
+pub enum ValuesTree {
+    Range(IntTree, IntTree),
+    Words(List<Mention>),
+}
+
+/// The declaration of a domain.
+#[derive(Debug, Drop)]
+pub struct DomainTree {
+    pub name: Mention,
+    pub values: ValuesTree,
+}
+
+/// The declaration of an item, with what its arguments range over.
+#[derive(Debug, Drop)]
+pub struct ItemTree {
+    pub input: bool,
+    pub name: Mention,
+    pub args: List<RefTree>,
+    pub value: RefTree,
+}
+
+/// A declaration of a domain or of an item.
+#[derive(Debug, Drop)]
+pub enum DeclarationTree {
+    Domain(DomainTree),
+    Item(ItemTree),
+}
+
+/// An axiom or a goal, with the number behind `at`.
+#[derive(Debug, Drop)]
+pub struct ClaimTree {
+    pub goal: bool,
+    pub name: Mention,
     pub at: Option<Written>,
     pub formula: FormulaTree,
 }
 
-/// A specification as it is written. The number behind `time` stands at place 1.
+/// A specification as it is written.
 #[derive(Debug, Drop)]
 pub struct SpecTree {
-    pub instants: u32,
-    pub items: List<ItemTree>,
-    pub axioms: List<AxiomTree>,
+    pub instants: Written,
+    pub declarations: List<DeclarationTree>,
+    pub claims: List<ClaimTree>,
 }

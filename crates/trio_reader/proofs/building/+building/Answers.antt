@@ -1,28 +1,53 @@
--- The answers to the goals of `formula_of`, `boxed_of` and `formulas_of`.
-use Rattle.std.proofs.Common.{refl, ap}
-use Rattle.trio_types.specs.declared.formula.Formula.TheVariants as formula
-use Rattle.trio_reader.proofs.Erased.{formula-Atom, formula-Not, formula-And, formula-Or, formula-Implies, formula-Dist}
+-- The answers to the goals of the erasure of formulas.
+use Rattle.std.proofs.Common.{refl}
+use Rattle.trio_reader.proofs.Erased.{formula-Lone, formula-Compare, formula-Not, formula-And, formula-Or, formula-Implies, formula-Iff, formula-Quantified, formula-One, formula-Far, formula-Pair}
 use Rattle.trio_reader.proofs.building.+building.Goals as goal
 
-pub formula_of-returns-in_ok-term_of-in-Atom : goal.formula_of-returns-in_ok-term_of-in-Atom
-formula_of-returns-in_ok-term_of-in-Atom t c = rw (c.in-Atom.is, formula-Atom) (ap formula.Lone c.in_ok-term_of-in-Atom.ensures)
+pub formula_of-returns-in_ok-term_of-in-Lone-clause-made : goal.formula_of-returns-in_ok-term_of-in-Lone-clause-made
+formula_of-returns-in_ok-term_of-in-Lone-clause-made t c =
+    rw (c.in-Lone.is, formula-Lone, c.in_ok-term_of-in-Lone.ensures, c.as_slice.ensures.value) refl
 
-pub formula_of-returns-in_ok-boxed_of-in-Not : goal.formula_of-returns-in_ok-boxed_of-in-Not
-formula_of-returns-in_ok-boxed_of-in-Not t c =
-    rw (c.in-Not.is, formula-Not, ← c.get.ensures) (ap formula.Not c.in_ok-boxed_of-in-Not.ensures)
+pub formula_of-returns-in_ok-right-in-Compare-clause-made : goal.formula_of-returns-in_ok-right-in-Compare-clause-made
+formula_of-returns-in_ok-right-in-Compare-clause-made t c =
+    rw (c.in-Compare.is, formula-Compare, c.in_ok-left-in-Compare.ensures, c.in_ok-right-in-Compare.ensures, c.as_slice-in-Compare.ensures.value,
+    c.as_slice-in-Compare-2.ensures.value) refl
 
-pub formula_of-returns-in_ok-formulas_of-in-And : goal.formula_of-returns-in_ok-formulas_of-in-And
-formula_of-returns-in_ok-formulas_of-in-And t c =
-    rw (c.in-And.is, formula-And, ← c.as_slice.ensures) (ap formula.And c.in_ok-formulas_of-in-And.ensures)
+pub formula_of-returns-in_ok-boxed_of-in-Not-clause-made : goal.formula_of-returns-in_ok-boxed_of-in-Not-clause-made
+formula_of-returns-in_ok-boxed_of-in-Not-clause-made t c =
+    rw (c.in-Not.is, formula-Not, c.in_ok-boxed_of-in-Not.ensures.made, c.get.ensures) refl
 
-pub formula_of-returns-in_ok-formulas_of-in-Or : goal.formula_of-returns-in_ok-formulas_of-in-Or
-formula_of-returns-in_ok-formulas_of-in-Or t c =
-    rw (c.in-Or.is, formula-Or, ← c.as_slice-in-Or.ensures) (ap formula.Or c.in_ok-formulas_of-in-Or.ensures)
+pub formula_of-returns-in_ok-formulas_of-in-And-clause-made : goal.formula_of-returns-in_ok-formulas_of-in-And-clause-made
+formula_of-returns-in_ok-formulas_of-in-And-clause-made t c =
+    rw (c.in-And.is, formula-And, c.in_ok-formulas_of-in-And.ensures.made, c.as_slice-in-And.ensures) refl
 
-pub formula_of-returns-in_ok-right-in-Implies : goal.formula_of-returns-in_ok-right-in-Implies
-formula_of-returns-in_ok-right-in-Implies t c =
-    rw (c.in-Implies.is, formula-Implies, ← c.get-in-Implies.ensures, ← c.get-in-Implies-2.ensures, c.in_ok-left-in-Implies.ensures, c.in_ok-right-in-Implies.ensures) refl
+pub formula_of-returns-in_ok-formulas_of-in-Or-clause-made : goal.formula_of-returns-in_ok-formulas_of-in-Or-clause-made
+formula_of-returns-in_ok-formulas_of-in-Or-clause-made t c =
+    rw (c.in-Or.is, formula-Or, c.in_ok-formulas_of-in-Or.ensures.made, c.as_slice-in-Or.ensures) refl
 
-pub formula_of-returns-in_ok-term_of-in-Dist : goal.formula_of-returns-in_ok-term_of-in-Dist
-formula_of-returns-in_ok-term_of-in-Dist t c =
-    rw (c.in-Dist.is, formula-Dist, ← c.get-in-Dist.ensures, c.in_ok-part-in-Dist.ensures, c.in_ok-term_of-in-Dist.ensures) refl
+pub formula_of-returns-in_ok-right-in-Implies-clause-made : goal.formula_of-returns-in_ok-right-in-Implies-clause-made
+formula_of-returns-in_ok-right-in-Implies-clause-made t c =
+    rw (c.in-Implies.is, formula-Implies, c.in_ok-right-in-Implies.ensures.made, c.in_ok-left-in-Implies.ensures.kept, c.in_ok-left-in-Implies.ensures.made, c.get-in-Implies.ensures,
+    c.get-in-Implies-2.ensures) refl
+
+pub formula_of-returns-in_ok-right-in-Iff-clause-made : goal.formula_of-returns-in_ok-right-in-Iff-clause-made
+formula_of-returns-in_ok-right-in-Iff-clause-made t c =
+    rw (c.in-Iff.is, formula-Iff, c.in_ok-right-in-Iff.ensures.made, c.in_ok-left-in-Iff.ensures.kept, c.in_ok-left-in-Iff.ensures.made, c.get-in-Iff.ensures,
+    c.get-in-Iff-2.ensures) refl
+
+pub formula_of-returns-in-Quantified-clause-made : goal.formula_of-returns-in-Quantified-clause-made
+formula_of-returns-in-Quantified-clause-made t c =
+    rw (c.in-Quantified.is, formula-Quantified, ← c.get-in-Quantified.ensures) c.quantified_of.ensures.made
+
+pub formula_of-returns-in_ok-boxed_of-in-One-clause-made : goal.formula_of-returns-in_ok-boxed_of-in-One-clause-made
+formula_of-returns-in_ok-boxed_of-in-One-clause-made t c =
+    rw (c.in-One.is, formula-One, c.in_ok-boxed_of-in-One.ensures.made, c.get-in-One.ensures) refl
+
+pub formula_of-returns-in_ok-distance-in-Far-clause-made : goal.formula_of-returns-in_ok-distance-in-Far-clause-made
+formula_of-returns-in_ok-distance-in-Far-clause-made t c =
+    rw (c.in-Far.is, formula-Far, c.in_ok-distance-in-Far.ensures, c.as_slice-in-Far.ensures.value, c.in_ok-part-in-Far.ensures.kept, c.in_ok-part-in-Far.ensures.made,
+    c.get-in-Far.ensures) refl
+
+pub formula_of-returns-in_ok-right-in-Pair-clause-made : goal.formula_of-returns-in_ok-right-in-Pair-clause-made
+formula_of-returns-in_ok-right-in-Pair-clause-made t c =
+    rw (c.in-Pair.is, formula-Pair, c.in_ok-right-in-Pair.ensures.made, c.in_ok-left-in-Pair.ensures.kept, c.in_ok-left-in-Pair.ensures.made, c.get-in-Pair.ensures,
+    c.get-in-Pair-2.ensures) refl

@@ -1,8 +1,10 @@
--- What the loops of `formula_of`, `boxed_of` and `formulas_of` keep.
+-- What the loop over parts keeps.
 use Rattle.std.proofs.Common.{◌≡◌, map, take}
-use Rattle.trio_reader.specs.Scope.{item_names}
+use Rattle.trio_scope.specs.Gather.{variables_of}
 use Rattle.trio_reader.specs.Erasure.{formula_of}
 use Rattle.trio_reader.proofs.building.+building.Given as goal
 
 abbrev pub invariant-formulas_of-loop-formula : goal.invariant-formulas_of-loop-formula
-invariant-formulas_of-loop-formula l = l.made.items ≡ map (formula_of (item_names l.scope.tree.now)) (take l.formula-index l.formulas)
+invariant-formulas_of-loop-formula l =
+    (l.around.items ≡ l.fn.around.items)
+    × (l.made.items ≡ map (λ f. formula_of l.scope.tree.now f (variables_of l.fn.around.items)) (take l.formula-index l.formulas))

@@ -1,0 +1,5 @@
+pub mod Least
+pub mod Lists
+pub mod Gathers
+pub mod Noted
+pub mod Statements
