@@ -6,6 +6,7 @@ ghost use Rattle.trio_types.specs.Verdict.{world_of, instants_asked, first_false
 ghost use Rattle.history_check.specs.Answers.{verdict_of};
 ghost use Rattle.history_check.specs.Fits.{FormulaFits, AskedInside};
 
+use crate::interpretation::Interpretation;
 use crate::truth::holds;
 use history_table::Table;
 use std::alloc::{AllocError, Global};
@@ -41,14 +42,13 @@ fn first_false_instant(spec: &Spec, table: &Table, axiom: &Axiom) -> Option<u32>
     ensures { result
         ≡ find (λ i. not (truth (world_of spec.now) «axiom».now.formula [] table.now i)) (instants_asked (world_of spec.now) «axiom».now.at) }
 {
+    let under = Interpretation {
+        spec,
+        table,
+        values: &[],
+    };
     match axiom.at {
-        Some(instant) => (!holds(spec, table, &axiom.formula, &[], instant)).then_some(instant),
-        None => (0..spec.instants).find(|instant| !holds(
-            spec,
-            table,
-            &axiom.formula,
-            &[],
-            *instant,
-        )),
+        Some(instant) => (!holds(under, &axiom.formula, instant)).then_some(instant),
+        None => (0..spec.instants).find(|instant| !holds(under, &axiom.formula, *instant)),
     }
 }

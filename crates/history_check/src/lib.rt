@@ -2,6 +2,7 @@
 #![tactic(auto)]
 
 mod checker;
+mod interpretation;
 mod terms;
 mod truth;
 mod window;
