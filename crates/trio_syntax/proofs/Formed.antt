@@ -1,6 +1,5 @@
 -- Every tree that is read is formed: its names are names, and what has parts has enough of them.
-use Rattle.std.proofs.Common.{◌≡◌, ℕ, zero, suc, ◌+◌, ◌≤◌, ◌⊎◌, inl, inr, Bool, true, false, ◌&&◌, List, [], ◌∷◌, ◌++◌, length, map, refl, sym, ap, subst, ◌∙◌, arith, Option, None, Some}
-use Rattle.std.specs.Prelude.{nat_le}
+use Rattle.std.proofs.Common.{◌≡◌, ℕ, zero, suc, ◌+◌, ◌≤◌, ◌⊎◌, inl, inr, Bool, true, false, ◌&&◌, List, [], ◌∷◌, ◌++◌, length, map, refl, sym, ap, subst, ◌∙◌, arith, Option, Some}
 use Rattle.std.specs.List.{list_all}
 use Rattle.std.proofs.lemmas.List.Folds.{list_all-map, list_all-append}
 use Rattle.std.proofs.lemmas.Bool.{and_parts, and_from, le-leb}
@@ -21,14 +20,13 @@ use Rattle.trio_syntax.specs.declared.tree.TermShape.TheFolds.{fold-TermShape, f
 use Rattle.trio_syntax.specs.declared.tree.TermShape.TheVariants as s
 use Rattle.trio_syntax.specs.declared.tree.TermShape.TheOpen as shape
 use Rattle.trio_syntax.specs.declared.tree.RefTree.{RefTree}
-use Rattle.trio_syntax.specs.declared.tree.RefTree.TheVariants as ref_to
 use Rattle.trio_syntax.specs.declared.tree.FormulaTree.{FormulaTree}
 use Rattle.trio_syntax.specs.declared.tree.FormulaTree.TheVariants as v
 use Rattle.trio_syntax.specs.declared.tree.FormulaTree.TheOpen as node
 use Rattle.trio_syntax.specs.declared.tree.FormulaTree.TheFolds.{fold-roll-FormulaTree}
 use Rattle.trio_text.specs.declared.token.Symbol.TheVariants as signs
 use Rattle.trio_syntax.specs.Reading.{Language}
-use Rattle.trio_syntax.specs.Forms.{Sort, sign, word, number, name, relation, adding, arrow, truth, quantifier, one_operator, far_operator, pair_operator, item_kind, claim_kind}
+use Rattle.trio_syntax.specs.Forms.{Sort, name, relation, adding, arrow}
 use Rattle.trio_syntax.specs.Forms.{Meaning, token_of, Row, formula, disj, conj, unary, primary, term, summand, factor, basic, Tree, Form, empty, one, row, seq, either, many, Many, none, more, Under}
 use Rattle.trio_syntax.specs.declared.tree.ValuesTree.{ValuesTree}
 use Rattle.trio_syntax.specs.declared.tree.ValuesTree.TheVariants as values
@@ -36,7 +34,7 @@ use Rattle.trio_syntax.specs.declared.tree.DeclarationTree.{DeclarationTree}
 use Rattle.trio_syntax.specs.declared.tree.DeclarationTree.TheVariants as declared
 use Rattle.trio_syntax.specs.declared.tree.ClaimTree.{ClaimTree}
 use Rattle.trio_syntax.specs.declared.tree.SpecTree.{SpecTree}
-use Rattle.trio_syntax.specs.Grammar.{a, a_sign, a_name, behind, before, both, round, listed, optional, body, rows_within, sum, product, named, compared, and_of, or_of, arrowed, connected, arguments, ref, bound, distant, paired, domain_values, domain, refs, item, claim, declarations, claims, spec, IsSpec}
+use Rattle.trio_syntax.specs.Grammar.{a, a_sign, a_name, behind, round, listed, optional, body, rows_within, sum, product, named, compared, and_of, or_of, arrowed, connected, arguments, ref, bound, distant, paired, domain_values, domain, refs, item, claim, declarations, claims, spec, IsSpec}
 use Rattle.trio_syntax.specs.Shape.{names_a_name, some_all, two_all, Part, is_sum, shape_is_formed, part_formed, term_formed, term_is_formed, ref_is_formed, node_is_formed, formula_is_formed, values_are_formed, declaration_is_formed, claim_is_formed, is_formed}
 
 -- what the folds are at each variant

@@ -1,5 +1,5 @@
 -- Every list of tokens has a text of a form in front, or a place where none goes on.
-use Rattle.std.proofs.Common.{◌≡◌, ℕ, zero, suc, ◌+◌, ◌*◌, ◌<◌, ◌≤◌, ◌⊎◌, inl, inr, ⊎_elim, Bool, true, false, not, ◌&&◌, ◌||◌, if◌then◌else◌, List, [], ◌∷◌, ◌++◌, length, map, refl, sym, ap, subst, ◌∙◌, arith, Some}
+use Rattle.std.proofs.Common.{◌≡◌, ℕ, zero, suc, ◌+◌, ◌*◌, ◌<◌, ◌≤◌, ◌⊎◌, inl, inr, ⊎_elim, Bool, true, false, not, ◌&&◌, ◌||◌, List, [], ◌∷◌, length, refl, sym, ap, ◌∙◌, arith, Some}
 use Rattle.std.specs.Prelude.{nat_lt, codes}
 use Rattle.std.specs.List.{list_all}
 use Rattle.std.specs.Str.{bytes_eq}
@@ -19,7 +19,7 @@ use Rattle.trio_syntax.specs.Reading.{IsReading, IsSyntaxFault}
 use Rattle.trio_syntax.specs.Forms.{Sort, sign, word, number, name, relation, adding, arrow, truth, quantifier, one_operator, far_operator, pair_operator, item_kind, claim_kind}
 use Rattle.trio_syntax.specs.Forms.{Meaning, token_of, Row, formula, disj, conj, unary, primary, term, summand, factor, basic, Form, empty, one, row, seq, either, many}
 use Rattle.trio_syntax.specs.Grammar.{body, spec, IsSpec}
-use Rattle.trio_syntax.specs.Exact.{Spot, class, has, tokens_of, texts_of_words, texts_of_signs, may_be_empty, first, after, apart, Stops, Reads, Stuck, Fronts, Takes, Stays}
+use Rattle.trio_syntax.specs.Exact.{Spot, class, has, tokens_of, texts_of_words, texts_of_signs, may_be_empty, first, after, apart, Reads, Stuck, Fronts, Stays}
 use Rattle.trio_syntax.proofs.Sets.{either_true}
 use Rattle.trio_syntax.proofs.Tokens.{sign_spelled, word_spelled, stays_end, stays_at}
 use Rattle.trio_syntax.proofs.Left.{Left, left_left, left_read, left_stuck, left_row, left_right, left_first, left_seq, seq_stuck, left_many, many_end, reads_one, stuck_one, reads_empty}

@@ -1,6 +1,7 @@
 -- How many brackets are open.
 use Rattle.std.specs.Prelude.{ℕ, ◌+◌, ◌-◌, nat_lt, List, length, take, fold, find, Option}
 use Rattle.std.specs.List.{range_with_len}
+use Rattle.trio_base.specs.declared.limits.TheConstants.{MOST_OPEN}
 use Rattle.trio_text.specs.declared.lexeme.Lexeme.{Lexeme}
 use Rattle.trio_text.specs.declared.lexeme.Lexeme.TheVariants as lexeme
 use Rattle.trio_text.specs.declared.token.Symbol.TheVariants as symbol
@@ -17,6 +18,6 @@ open_after open_ token = open_
 unfoldable pub open_behind : List Lexeme → ℕ
 open_behind tokens = fold open_after 0 tokens
 
--- the first token with which more than 100 are open
+-- the first token with which more are open than may be
 unfoldable pub first_deep : List Lexeme → Option ℕ
-first_deep tokens = find (λ k. nat_lt 100 (open_behind (take (k + 1) tokens))) (range_with_len 0 (length tokens))
+first_deep tokens = find (λ k. nat_lt MOST_OPEN (open_behind (take (k + 1) tokens))) (range_with_len 0 (length tokens))

@@ -1,15 +1,14 @@
 //! How many brackets are open.
 ghost use Rattle.std.specs.Prelude.{◌≡◌, ◌+◌, ◌≤◌, ◌<◌, ◌^◌, length};
+ghost use Rattle.trio_base.specs.declared.limits.TheConstants.{MOST_OPEN};
 ghost use Rattle.trio_syntax.specs.Depth.{open_after, first_deep};
 
+use trio_base::limits::MOST_OPEN;
 use trio_text::{Lexeme, Symbol};
-
-/// How many brackets may be open.
-const GREATEST_DEPTH: usize = 100;
 
 /// How many brackets are open behind this token, where this many are open before it.
 fn open_after(opened: usize, token: &Lexeme) -> usize
-    requires { opened ≤ 100 }
+    requires { opened ≤ MOST_OPEN }
     ensures { result ≡ open_after opened token.now }
 {
     match token {
@@ -26,7 +25,7 @@ pub fn first_deep(lexemes: &[Lexeme]) -> Option<usize>
     let mut opened = 0;
     for (place, lexeme) in lexemes.iter().enumerate() {
         opened = open_after(opened, lexeme);
-        if opened > GREATEST_DEPTH {
+        if opened > MOST_OPEN as usize {
             return Some(place);
         }
     }

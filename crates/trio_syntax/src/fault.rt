@@ -1,3 +1,5 @@
+//! Why tokens are no specification.
+
 /// Why tokens are no specification. A place is the number of a token, from 0.
 #[derive(Clone, Copy, Debug, PartialEq, Eq)]
 pub enum TreeFault {

@@ -11,7 +11,8 @@ use Rattle.trio_text.specs.declared.token.TokenKind.{TokenKind}
 use Rattle.trio_text.specs.declared.token.TokenKind.TheVariants as kind
 use Rattle.trio_text.specs.Spelling.{is_letter, is_digit, is_name_byte, is_number, symbol_text, Spells}
 use Rattle.trio_text.specs.Tokens.{IsLongest}
-use Rattle.trio_text.specs.Reading.{is_word, symbols, symbol_of, IsFront, BeginsNoToken}
+use Rattle.trio_text.specs.declared.spelling.TheConstants.{SYMBOLS}
+use Rattle.trio_text.specs.Reading.{is_word, symbol_of, IsFront, BeginsNoToken}
 use Rattle.trio_text.proofs.Runs.{and_right, and_both, or_left, not_true, passes_at, find_none, found_passes, found_greatest, Ends, IsRun, run, none_longer}
 use Rattle.trio_text.proofs.Spellings.{begins_with, is_sign_byte, begins_token, symbol_begins, symbol_listed, word_letter, word_bytes, number_digit, number_bytes, letter_word, digit_number, name_word, word_is_word, sign_symbol, token_begins}
 
@@ -63,14 +64,14 @@ starts_so text word rest is = (starts_is Decides-eqb text word (starts_with nat_
 pub symbol_stands : (text : List ℕ) (s : Symbol) → symbol_of text ≡ Some s → text ≡ symbol_text s ++ drop (length (symbol_text s)) text
 symbol_stands text s found =
     (starts_is Decides-eqb text (symbol_text s) (starts_with nat_eq text (symbol_text s)) refl).0
-    (found_passes (λ r. starts_with nat_eq text (symbol_text r)) s symbols found)
+    (found_passes (λ r. starts_with nat_eq text (symbol_text r)) s SYMBOLS found)
 
 -- no symbol at the front is longer than the one that is found
 symbol_greatest : (text : List ℕ) (s r : Symbol) (rest : List ℕ) → symbol_of text ≡ Some s → text ≡ symbol_text r ++ rest → length (symbol_text r) ≤ length (symbol_text s)
 symbol_greatest text s r rest found is =
     let starts : Symbol → Bool = λ q. starts_with nat_eq text (symbol_text q) in
     let weight : Symbol → ℕ = λ q. length (symbol_text q) in
-    let all = found_greatest starts weight s symbols found refl in
+    let all = found_greatest starts weight s SYMBOLS found refl in
     let holds : (not (starts r) || nat_le (weight r) (weight s)) ≡ true = symbol_listed r (λ q. not (starts q) || nat_le (weight q) (weight s)) all in
     leb-true _ _ (ap (λ t. not t || nat_le (weight r) (weight s)) (sym (starts_so text (symbol_text r) rest is)) ∙ holds)
 
@@ -145,7 +146,7 @@ no_token_empty text empty = record {
 no_symbol : (text : List ℕ) → symbol_of text ≡ None → (s : Symbol) (rest : List ℕ) → text ≡ symbol_text s ++ rest → ⊥
 no_symbol text none s rest is =
     let starts : Symbol → Bool = λ q. starts_with nat_eq text (symbol_text q) in
-    let fails : not (starts s) ≡ true = symbol_listed s (λ q. not (starts q)) (find_none starts symbols none) in
+    let fails : not (starts s) ≡ true = symbol_listed s (λ q. not (starts q)) (find_none starts SYMBOLS none) in
     false≢true (sym (not_true _ fails) ∙ starts_so text (symbol_text s) rest is)
 
 stuck : (text : List ℕ) → begins_with is_letter text ≡ false → begins_with is_digit text ≡ false → symbol_of text ≡ None →

@@ -12,7 +12,8 @@ use Rattle.trio_text.specs.declared.token.Symbol.TheVariants as symbol
 use Rattle.trio_text.specs.declared.token.TokenKind.{TokenKind}
 use Rattle.trio_text.specs.declared.token.TokenKind.TheVariants as kind
 use Rattle.trio_text.specs.Spelling.{is_letter, is_digit, is_name_byte, is_blank, is_reserved, is_name, is_number, word_text, symbol_text, Spells}
-use Rattle.trio_text.specs.Reading.{is_word, reserved, reserved_of, symbols, symbol_of}
+use Rattle.trio_text.specs.declared.spelling.TheConstants.{RESERVED, SYMBOLS}
+use Rattle.trio_text.specs.Reading.{is_word, reserved_of, symbol_of}
 use Rattle.trio_text.proofs.Runs.{and_left, and_right, and_both, or_left, not_true, all_at, find_none, find_nothing, found_passes, fails_each}
 
 -- the first byte passes the test
@@ -186,32 +187,32 @@ kind_of-symbol symbol.Span = refl
 kind_of-symbol symbol.Unknown = refl
 
 -- every symbol is listed
-pub symbol_listed : (s : Symbol) (test : Symbol → Bool) → list_all test symbols ≡ true → test s ≡ true
-symbol_listed symbol.Semi test all = all_at test symbols 6 symbol.Semi all (lit< tt)
-symbol_listed symbol.Colon test all = all_at test symbols 7 symbol.Semi all (lit< tt)
-symbol_listed symbol.Comma test all = all_at test symbols 8 symbol.Semi all (lit< tt)
-symbol_listed symbol.LeftRound test all = all_at test symbols 9 symbol.Semi all (lit< tt)
-symbol_listed symbol.RightRound test all = all_at test symbols 10 symbol.Semi all (lit< tt)
-symbol_listed symbol.LeftSquare test all = all_at test symbols 11 symbol.Semi all (lit< tt)
-symbol_listed symbol.RightSquare test all = all_at test symbols 12 symbol.Semi all (lit< tt)
-symbol_listed symbol.LeftBrace test all = all_at test symbols 13 symbol.Semi all (lit< tt)
-symbol_listed symbol.RightBrace test all = all_at test symbols 14 symbol.Semi all (lit< tt)
-symbol_listed symbol.Eq test all = all_at test symbols 15 symbol.Semi all (lit< tt)
-symbol_listed symbol.Ne test all = all_at test symbols 1 symbol.Semi all (lit< tt)
-symbol_listed symbol.Lt test all = all_at test symbols 16 symbol.Semi all (lit< tt)
-symbol_listed symbol.Le test all = all_at test symbols 2 symbol.Semi all (lit< tt)
-symbol_listed symbol.Gt test all = all_at test symbols 17 symbol.Semi all (lit< tt)
-symbol_listed symbol.Ge test all = all_at test symbols 3 symbol.Semi all (lit< tt)
-symbol_listed symbol.Arrow test all = all_at test symbols 4 symbol.Semi all (lit< tt)
-symbol_listed symbol.Both test all = all_at test symbols 0 symbol.Semi all (lit< tt)
-symbol_listed symbol.And test all = all_at test symbols 18 symbol.Semi all (lit< tt)
-symbol_listed symbol.Or test all = all_at test symbols 19 symbol.Semi all (lit< tt)
-symbol_listed symbol.Not test all = all_at test symbols 20 symbol.Semi all (lit< tt)
-symbol_listed symbol.Plus test all = all_at test symbols 21 symbol.Semi all (lit< tt)
-symbol_listed symbol.Minus test all = all_at test symbols 22 symbol.Semi all (lit< tt)
-symbol_listed symbol.Times test all = all_at test symbols 23 symbol.Semi all (lit< tt)
-symbol_listed symbol.Span test all = all_at test symbols 5 symbol.Semi all (lit< tt)
-symbol_listed symbol.Unknown test all = all_at test symbols 24 symbol.Semi all (lit< tt)
+pub symbol_listed : (s : Symbol) (test : Symbol → Bool) → list_all test SYMBOLS ≡ true → test s ≡ true
+symbol_listed symbol.Semi test all = all_at test SYMBOLS 6 symbol.Semi all (lit< tt)
+symbol_listed symbol.Colon test all = all_at test SYMBOLS 7 symbol.Semi all (lit< tt)
+symbol_listed symbol.Comma test all = all_at test SYMBOLS 8 symbol.Semi all (lit< tt)
+symbol_listed symbol.LeftRound test all = all_at test SYMBOLS 9 symbol.Semi all (lit< tt)
+symbol_listed symbol.RightRound test all = all_at test SYMBOLS 10 symbol.Semi all (lit< tt)
+symbol_listed symbol.LeftSquare test all = all_at test SYMBOLS 11 symbol.Semi all (lit< tt)
+symbol_listed symbol.RightSquare test all = all_at test SYMBOLS 12 symbol.Semi all (lit< tt)
+symbol_listed symbol.LeftBrace test all = all_at test SYMBOLS 13 symbol.Semi all (lit< tt)
+symbol_listed symbol.RightBrace test all = all_at test SYMBOLS 14 symbol.Semi all (lit< tt)
+symbol_listed symbol.Eq test all = all_at test SYMBOLS 15 symbol.Semi all (lit< tt)
+symbol_listed symbol.Ne test all = all_at test SYMBOLS 1 symbol.Semi all (lit< tt)
+symbol_listed symbol.Lt test all = all_at test SYMBOLS 16 symbol.Semi all (lit< tt)
+symbol_listed symbol.Le test all = all_at test SYMBOLS 2 symbol.Semi all (lit< tt)
+symbol_listed symbol.Gt test all = all_at test SYMBOLS 17 symbol.Semi all (lit< tt)
+symbol_listed symbol.Ge test all = all_at test SYMBOLS 3 symbol.Semi all (lit< tt)
+symbol_listed symbol.Arrow test all = all_at test SYMBOLS 4 symbol.Semi all (lit< tt)
+symbol_listed symbol.Both test all = all_at test SYMBOLS 0 symbol.Semi all (lit< tt)
+symbol_listed symbol.And test all = all_at test SYMBOLS 18 symbol.Semi all (lit< tt)
+symbol_listed symbol.Or test all = all_at test SYMBOLS 19 symbol.Semi all (lit< tt)
+symbol_listed symbol.Not test all = all_at test SYMBOLS 20 symbol.Semi all (lit< tt)
+symbol_listed symbol.Plus test all = all_at test SYMBOLS 21 symbol.Semi all (lit< tt)
+symbol_listed symbol.Minus test all = all_at test SYMBOLS 22 symbol.Semi all (lit< tt)
+symbol_listed symbol.Times test all = all_at test SYMBOLS 23 symbol.Semi all (lit< tt)
+symbol_listed symbol.Span test all = all_at test SYMBOLS 5 symbol.Semi all (lit< tt)
+symbol_listed symbol.Unknown test all = all_at test SYMBOLS 24 symbol.Semi all (lit< tt)
 
 -- ---- the classes of bytes
 
@@ -231,13 +232,13 @@ digit_no_letter b digit = grind (arith, nat_tests)
 
 pub reserved_spells : (spelled : List ℕ) (r : Reserved) → reserved_of spelled ≡ Some r → spelled ≡ word_text r
 reserved_spells spelled r found =
-    (bytes_eq-Decides spelled (word_text r)).0 (found_passes (λ s. bytes_eq spelled (word_text s)) r reserved found)
+    (bytes_eq-Decides spelled (word_text r)).0 (found_passes (λ s. bytes_eq spelled (word_text s)) r RESERVED found)
 
 -- a word that is not reserved is a name
 pub word_name : (spelled : List ℕ) → is_word spelled ≡ true → reserved_of spelled ≡ None → is_name spelled ≡ true
 word_name [] word none = word
 word_name (b ∷ bs) word none =
-    let free : is_reserved (b ∷ bs) ≡ false = fails_each (λ r. bytes_eq (b ∷ bs) (word_text r)) reserved (find_none (λ r. bytes_eq (b ∷ bs) (word_text r)) reserved none) in
+    let free : is_reserved (b ∷ bs) ≡ false = fails_each (λ r. bytes_eq (b ∷ bs) (word_text r)) RESERVED (find_none (λ r. bytes_eq (b ∷ bs) (word_text r)) RESERVED none) in
     and_both _ _ (and_left (is_letter b) _ word) (and_both _ _ (and_right (is_letter b) _ word) (ap not free))
 
 pub name_word : (spelled : List ℕ) → is_name spelled ≡ true → is_word spelled ≡ true
@@ -248,7 +249,7 @@ name_word (b ∷ bs) name =
 pub name_free : (spelled : List ℕ) → is_name spelled ≡ true → reserved_of spelled ≡ None
 name_free [] name = absurd (false≢true name)
 name_free (b ∷ bs) name =
-    find_nothing (λ r. bytes_eq (b ∷ bs) (word_text r)) reserved (not_true _ (and_right (list_all is_name_byte bs) _ (and_right (is_letter b) _ name)))
+    find_nothing (λ r. bytes_eq (b ∷ bs) (word_text r)) RESERVED (not_true _ (and_right (list_all is_name_byte bs) _ (and_right (is_letter b) _ name)))
 
 pub word_letter : (spelled : List ℕ) → is_word spelled ≡ true → begins_with is_letter spelled ≡ true
 word_letter [] word = word

@@ -1,5 +1,6 @@
 -- What the tokens of a text say.
 use Rattle.std.specs.Prelude.{ℕ, ◌+◌, ◌-◌, ◌*◌, min, Bool, true, List, take, drop, map, fold}
+use Rattle.trio_base.specs.declared.limits.TheConstants.{GREATEST_NUMBER}
 use Rattle.trio_text.specs.declared.token.Token.{Token}
 use Rattle.trio_text.specs.declared.token.TokenKind.{TokenKind}
 use Rattle.trio_text.specs.declared.token.TokenKind.TheVariants as kind
@@ -18,7 +19,7 @@ number_of digits = fold (λ n b. 10 * n + (b - 48)) 0 digits
 -- what a token of this kind and spelling says; the numbers above the greatest that a text may hold are told apart from no other
 abbrev pub lexeme_of_kind : TokenKind → List ℕ → Lexeme
 lexeme_of_kind kind.Name word = lexeme.Name word
-lexeme_of_kind kind.Number word = lexeme.Number (min (number_of word) 1000001)
+lexeme_of_kind kind.Number word = lexeme.Number (min (number_of word) (GREATEST_NUMBER + 1))
 lexeme_of_kind (kind.Word r) word = lexeme.Word r
 lexeme_of_kind (kind.Sign s) word = lexeme.Sign s
 

@@ -3,9 +3,8 @@ use Rattle.std.specs.Prelude.{◌≡◌, ℕ, ◌+◌, ◌≤◌, Bool, true, fa
 use Rattle.std.specs.List.{list_all, find, starts_with}
 use Rattle.std.specs.Str.{bytes_eq}
 use Rattle.trio_text.specs.declared.token.Reserved.{Reserved}
-use Rattle.trio_text.specs.declared.token.Reserved.TheVariants as word
 use Rattle.trio_text.specs.declared.token.Symbol.{Symbol}
-use Rattle.trio_text.specs.declared.token.Symbol.TheVariants as symbol
+use Rattle.trio_text.specs.declared.spelling.TheConstants.{RESERVED, SYMBOLS}
 use Rattle.trio_text.specs.declared.token.Token.{Token}
 use Rattle.trio_text.specs.declared.token.TokenKind.{TokenKind}
 use Rattle.trio_text.specs.Spelling.{is_letter, is_name_byte, is_blank, word_text, symbol_text, Spells}
@@ -16,33 +15,13 @@ abbrev pub is_word : List ℕ → Bool
 is_word [] = false
 is_word (b ∷ bs) = is_letter b && list_all is_name_byte bs
 
--- every reserved word
-abbrev pub reserved : List Reserved
-reserved =
-    word.Time ∷ word.Domain ∷ word.Item ∷ word.Input ∷ word.Fixed ∷ word.Axiom ∷
-    word.Goal ∷ word.At ∷ word.All ∷ word.Ex ∷ word.Bool ∷ word.True ∷
-    word.False ∷ word.Dist ∷ word.Futr ∷ word.Past ∷ word.Alw ∷ word.AlwF ∷
-    word.AlwP ∷ word.Som ∷ word.SomF ∷ word.SomP ∷ word.Until ∷ word.Since ∷
-    word.NextTime ∷ word.LastTime ∷ word.Lasts ∷ word.LastsIi ∷ word.LastsIe ∷
-    word.LastsEi ∷ word.Lasted ∷ word.LastedIi ∷ word.LastedIe ∷ word.LastedEi ∷
-    word.WithinF ∷ word.WithinFIi ∷ word.WithinFIe ∷ word.WithinFEi ∷ word.WithinP ∷
-    word.WithinPIi ∷ word.WithinPIe ∷ word.WithinPEi ∷ []
-
 -- the reserved word that is spelled so
 abbrev pub reserved_of : List ℕ → Option Reserved
-reserved_of word = find (λ r. bytes_eq word (word_text r)) reserved
+reserved_of word = find (λ r. bytes_eq word (word_text r)) RESERVED
 
--- every symbol, the longer spellings first
-abbrev pub symbols : List Symbol
-symbols =
-    symbol.Both ∷ symbol.Ne ∷ symbol.Le ∷ symbol.Ge ∷ symbol.Arrow ∷ symbol.Span ∷ symbol.Semi ∷ symbol.Colon ∷
-    symbol.Comma ∷ symbol.LeftRound ∷ symbol.RightRound ∷ symbol.LeftSquare ∷ symbol.RightSquare ∷
-    symbol.LeftBrace ∷ symbol.RightBrace ∷ symbol.Eq ∷ symbol.Lt ∷ symbol.Gt ∷ symbol.And ∷ symbol.Or ∷
-    symbol.Not ∷ symbol.Plus ∷ symbol.Minus ∷ symbol.Times ∷ symbol.Unknown ∷ []
-
--- the first of these with which the text begins
+-- the longest symbol with which the text begins: the table has the longer ones first
 abbrev pub symbol_of : List ℕ → Option Symbol
-symbol_of text = find (λ s. starts_with nat_eq text (symbol_text s)) symbols
+symbol_of text = find (λ s. starts_with nat_eq text (symbol_text s)) SYMBOLS
 
 -- the first n bytes are a token of this kind, the longest that fits
 pub record IsFront (text : List ℕ) (kind : TokenKind) (n : ℕ) : Type 0 where

@@ -1,16 +1,15 @@
 //! What tokens say.
 
 ghost use Rattle.std.specs.Prelude.{◌≡◌, ◌+◌, ◌≤◌, true, min, length, IfOk};
+ghost use Rattle.trio_base.specs.declared.limits.TheConstants.{GREATEST_NUMBER};
 ghost use Rattle.trio_text.specs.Spelling.{is_name, Spells};
 ghost use Rattle.trio_text.specs.Tokens.{IsTokens};
 ghost use Rattle.trio_text.specs.Lexemes.{spelling, number_of, lexeme_of_kind, lexemes_of};
 
 use crate::token::{Reserved, Symbol, Token, TokenKind, TokenList};
 use std::alloc::{AllocError, Global};
+use trio_base::limits::GREATEST_NUMBER;
 use trio_base::{List, Name};
-
-/// The greatest number that a text may hold.
-pub const GREATEST_NUMBER: u32 = 1_000_000;
 
 /// A token with what it says and without its place in the text: grammars are said over these.
 #[derive(Debug, Drop)]

@@ -13,6 +13,6 @@ pub use laws::{
     names_are_names, text_has_one_fault, text_has_tokens_or_a_fault, text_is_one_list_of_tokens,
     tokens_are_no_more_than_bytes, tokens_stand_in_order,
 };
-pub use lexeme::{GREATEST_NUMBER, Lexeme, Lexemes, lexemes};
+pub use lexeme::{Lexeme, Lexemes, lexemes};
 pub use lexer::tokens;
 pub use token::{LexFault, Reserved, Symbol, Token, TokenKind, TokenList};

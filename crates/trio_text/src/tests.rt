@@ -62,8 +62,10 @@ fn texts_have_their_tokens(rt: HostRuntime) {
 
 #[test]
 fn faults_stand_at_their_byte(rt: HostRuntime) {
-    let rows: [(&[u8], &str); 9] = [
+    let rows: [(&[u8], &str); 11] = [
         (b"/", "fault 0"),
+        (b"a\x0bb", "fault 1"),
+        (b"\x0c", "fault 0"),
         (b"a .", "fault 2"),
         (b"1...2", "fault 3"),
         (b"_x", "fault 0"),
