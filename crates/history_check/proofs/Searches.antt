@@ -1,9 +1,10 @@
 -- Searches over instants and over values.
-use Rattle.std.proofs.Common.{◌≡◌, ℕ, ◌+◌, ◌-◌, ◌<◌, ◌≤◌, ℤ, Bool, true, false, not, ◌&&◌, nat_lt, nat_le, List, refl, sym, ap, ◌∙◌, arith}
+use Rattle.std.proofs.Common.{◌≡◌, ℕ, ◌+◌, ◌-◌, ◌<◌, ◌≤◌, ℤ, Bool, true, false, not, ◌&&◌, nat_lt, nat_le, List, Option, None, Some, refl, sym, ap, ◌∙◌, arith}
 use Rattle.std.specs.List.{list_all, list_any, filter, range_with_len}
 use Rattle.std.proofs.Math.Logic.{⊎_elim}
 use Rattle.std.proofs.lemmas.Bool.{false≢true, not-true, not_from_false, false_from_ne_true, true_from_ne_false, cases_lt, lt-ltb, ltb-true}
 use Rattle.trio_base.specs.declared.operators.OneOp.TheVariants as one
+use Rattle.trio_base.specs.declared.operators.PairOp.{PairOp}
 use Rattle.trio_base.specs.declared.operators.PairOp.TheVariants as pair
 use Rattle.trio_types.specs.declared.formula.Formula.{Formula}
 use Rattle.trio_types.specs.declared.formula.Formula.TheVariants as formula
@@ -12,7 +13,7 @@ use Rattle.trio_types.specs.Truth.{truth, one_truth}
 use Rattle.trio_types.specs.Laws.{TrueUntil, TrueSince}
 use Rattle.trio_types.proofs.Lists.{any_of_range, range_has_any, all_is_not_any, any_same}
 use Rattle.trio_types.proofs.Operators.{some_instant, at_instant, all_pass, until_law, since_law}
-use Rattle.history_check.specs.Fits.{Selects, First, Last}
+use Rattle.history_check.specs.Fits.{Selects, First, Last, IsFirst, IsNearest, IsBetween}
 use Rattle.history_check.proofs.Windows.{same_bool, decides_window}
 
 -- one instant more
@@ -107,7 +108,7 @@ range_of_each p a n each =
     (λ any. let r = any_of_range (λ j. not (p j)) a n any in false≢true (sym (not-true (p r.0) r.3) ∙ each r.0 r.1 r.2)))
 
 -- the nearest instant at which the right formula is true decides
-pub until_found : (w : World) (f g : Formula) (e : List ℤ) (t : List ℕ) (i j : ℕ) → First (truth w g e t) (i + 1) w.instants j →
+until_found : (w : World) (f g : Formula) (e : List ℤ) (t : List ℕ) (i j : ℕ) → First (truth w g e t) (i + 1) w.instants j →
     not (list_any (λ k. not (truth w f e t k)) (range_with_len (i + 1) (j - (i + 1)))) ≡ truth w (formula.Pair pair.Until f g) e t i
 until_found w f g e t i j first =
     same_bool (not (list_any (λ k. not (truth w f e t k)) (range_with_len (i + 1) (j - (i + 1))))) (truth w (formula.Pair pair.Until f g) e t i)
@@ -124,11 +125,11 @@ until_found w f g e t i j first =
     (λ not_earlier. range_of_each (truth w f e t) (i + 1) (j - (i + 1)) (λ k from to. r.between k (omega arith) (omega (arith, first.from_on))))
     (cases_lt r.instant j))
 
-pub until_none : (w : World) (f g : Formula) (e : List ℤ) (t : List ℕ) (i : ℕ) → ((k : ℕ) → i + 1 ≤ k → k < w.instants → truth w g e t k ≡ false) →
+until_none : (w : World) (f g : Formula) (e : List ℤ) (t : List ℕ) (i : ℕ) → ((k : ℕ) → i + 1 ≤ k → k < w.instants → truth w g e t k ≡ false) →
     false ≡ truth w (formula.Pair pair.Until f g) e t i
 until_none w f g e t i none = no_until w f g e t i (λ r. false≢true (sym (none r.instant (omega (arith, r.later)) r.inside) ∙ r.there))
 
-pub since_found : (w : World) (f g : Formula) (e : List ℤ) (t : List ℕ) (i j : ℕ) → i < w.instants → Last (truth w g e t) i j →
+since_found : (w : World) (f g : Formula) (e : List ℤ) (t : List ℕ) (i j : ℕ) → i < w.instants → Last (truth w g e t) i j →
     not (list_any (λ k. not (truth w f e t k)) (range_with_len (j + 1) (i - (j + 1)))) ≡ truth w (formula.Pair pair.Since f g) e t i
 since_found w f g e t i j now last =
     same_bool (not (list_any (λ k. not (truth w f e t k)) (range_with_len (j + 1) (i - (j + 1))))) (truth w (formula.Pair pair.Since f g) e t i)
@@ -145,12 +146,12 @@ since_found w f g e t i j now last =
     (λ not_later. range_of_each (truth w f e t) (j + 1) (i - (j + 1)) (λ k from to. r.between k (omega arith) (omega (arith, last.before))))
     (cases_lt j r.instant))
 
-pub since_none : (w : World) (f g : Formula) (e : List ℤ) (t : List ℕ) (i : ℕ) → i < w.instants → ((k : ℕ) → k < i → truth w g e t k ≡ false) →
+since_none : (w : World) (f g : Formula) (e : List ℤ) (t : List ℕ) (i : ℕ) → i < w.instants → ((k : ℕ) → k < i → truth w g e t k ≡ false) →
     false ≡ truth w (formula.Pair pair.Since f g) e t i
 since_none w f g e t i now none = no_since w f g e t i now (λ r. false≢true (sym (none r.instant r.earlier) ∙ r.there))
 
 -- the same between equal ends
-pub first_at : (f : ℕ → Bool) (a b c d j : ℕ) → a ≡ c → b ≡ d → First f a b j → First f c d j
+first_at : (f : ℕ → Bool) (a b c d j : ℕ) → a ≡ c → b ≡ d → First f a b j → First f c d j
 first_at f a b c d j from to h = record {
   from_on = omega (arith, h.from_on, from);
   before = omega (arith, h.before, to);
@@ -158,5 +159,35 @@ first_at f a b c d j from to h = record {
   none_earlier = λ k later earlier. h.none_earlier k (omega (arith, later, from)) earlier;
 }
 
-pub range_at : (p : ℕ → Bool) (a b c d : ℕ) → a ≡ c → b ≡ d → list_any p (range_with_len a (b - a)) ≡ list_any p (range_with_len c (d - c))
+range_at : (p : ℕ → Bool) (a b c d : ℕ) → a ≡ c → b ≡ d → list_any p (range_with_len a (b - a)) ≡ list_any p (range_with_len c (d - c))
 range_at p a b c d from to = ap (λ n. list_any p (range_with_len n (b - n))) from ∙ ap (λ n. list_any p (range_with_len c (n - c))) to
+
+-- what an operator on two formulas says, from the nearest instant at which the right one is true
+pub nearest_inside : (w : World) (o : PairOp) (g : ℕ → Bool) (i j : ℕ) → i < w.instants → IsNearest w o g i (Some j) → j < w.instants
+nearest_inside w pair.Until g i j now near = near.before
+nearest_inside w pair.Since g i j now near = omega (arith, near.before)
+
+pub between_inside : (w : World) (i j from to : ℕ) → i < w.instants → j < w.instants → IsBetween i j from to → to ≤ w.instants
+between_inside w i j from to now there h =
+    ⊎_elim
+    (λ earlier. omega (arith, there, (h.on (omega (arith, earlier))).1))
+    (λ not_earlier. omega (arith, now, (h.back (omega (arith, not_earlier))).1))
+    (cases_lt i j)
+
+pub pair_found : (w : World) (o : PairOp) (f g : Formula) (e : List ℤ) (t : List ℕ) (i j from to : ℕ) → i < w.instants → IsNearest w o (truth w g e t) i (Some j) →
+    IsBetween i j from to → not (list_any (λ k. not (truth w f e t k)) (range_with_len from (to - from))) ≡ truth w (formula.Pair o f g) e t i
+pair_found w pair.Until f g e t i j from to now near h =
+    let ends = h.on (omega (arith, near.from_on)) in
+    ap not (range_at (λ k. not (truth w f e t k)) from to (i + 1) j ends.0 ends.1) ∙ until_found w f g e t i j near
+pair_found w pair.Since f g e t i j from to now near h =
+    let ends = h.back (omega (arith, near.before)) in
+    ap not (range_at (λ k. not (truth w f e t k)) from to (j + 1) i ends.0 ends.1) ∙ since_found w f g e t i j now near
+
+pub pair_not_found : (w : World) (o : PairOp) (f g : Formula) (e : List ℤ) (t : List ℕ) (i : ℕ) → i < w.instants → IsNearest w o (truth w g e t) i None →
+    false ≡ truth w (formula.Pair o f g) e t i
+pair_not_found w pair.Until f g e t i now none = until_none w f g e t i none
+pair_not_found w pair.Since f g e t i now none = since_none w f g e t i now none
+
+pub first_between : (f : ℕ → Bool) (from to a b : ℕ) (found : Option ℕ) → from ≡ a → to ≡ b → IsFirst f from to found → IsFirst f a b found
+first_between f from to a b None same_from same_to none = λ k later earlier. none k (omega (arith, later, same_from)) (omega (arith, earlier, same_to))
+first_between f from to a b (Some j) same_from same_to first = first_at f from to a b j same_from same_to first

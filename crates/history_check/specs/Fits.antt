@@ -3,6 +3,8 @@ use Rattle.std.specs.Prelude.{◌≡◌, ℕ, ◌+◌, ◌-◌, ◌<◌, ◌≤�
 use Rattle.std.specs.List.{list_all, list_any, range_with_len}
 use Rattle.trio_base.specs.declared.limits.TheConstants.{GREATEST_BOUND, MOST_OPEN}
 use Rattle.trio_base.specs.declared.operators.OneOp.{OneOp}
+use Rattle.trio_base.specs.declared.operators.PairOp.{PairOp}
+use Rattle.trio_base.specs.declared.operators.PairOp.TheVariants as pair
 use Rattle.trio_types.specs.declared.formula.Term.{Term}
 use Rattle.trio_types.specs.declared.formula.Formula.{Formula}
 use Rattle.trio_types.specs.World.{World, values_in}
@@ -86,3 +88,13 @@ pub record Last (f : ℕ → Bool) (to j : ℕ) : Type 0 where
 
 abbrev pub IsLast : (ℕ → Bool) → ℕ → Option ℕ → Type 0
 IsLast f to result = MatchOption result ((k : ℕ) → k < to → f k ≡ false) (Last f to)
+
+-- the instant nearest to another at which something is true: the first after it for Until, the last before it for Since
+abbrev pub IsNearest : World → PairOp → (ℕ → Bool) → ℕ → Option ℕ → Type 0
+IsNearest world pair.Until f i result = IsFirst f (i + 1) world.instants result
+IsNearest world pair.Since f i result = IsLast f i result
+
+-- the instants between two, whichever of them is the first
+pub record IsBetween (i j from to : ℕ) : Type 0 where
+  pub on : i ≤ j → (from ≡ i + 1) × (to ≡ j)
+  pub back : j ≤ i → (from ≡ j + 1) × (to ≡ i)

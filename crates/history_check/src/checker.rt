@@ -6,12 +6,11 @@ ghost use Rattle.trio_types.specs.Verdict.{world_of, instants_asked, first_false
 ghost use Rattle.history_check.specs.Answers.{verdict_of};
 ghost use Rattle.history_check.specs.Fits.{FormulaFits, AskedInside};
 
+use crate::interpretation::Interpretation;
 use crate::truth::holds;
+use history_table::Table;
 use std::alloc::{AllocError, Global};
-use trio_types::{Axiom, List, Spec};
-
-/// A value index for each cell, in the order of the cells' numbers.
-pub type Table = List<u16>;
+use trio_types::{Axiom, Spec};
 
 /// What a table makes of a specification.
 #[derive(Clone, Copy, Debug, PartialEq, Eq)]
@@ -43,14 +42,13 @@ fn first_false_instant(spec: &Spec, table: &Table, axiom: &Axiom) -> Option<u32>
     ensures { result
         ≡ find (λ i. not (truth (world_of spec.now) «axiom».now.formula [] table.now i)) (instants_asked (world_of spec.now) «axiom».now.at) }
 {
+    let under = Interpretation {
+        spec,
+        table,
+        values: &[],
+    };
     match axiom.at {
-        Some(instant) => (!holds(spec, table, &axiom.formula, &[], instant)).then_some(instant),
-        None => (0..spec.instants).find(|instant| !holds(
-            spec,
-            table,
-            &axiom.formula,
-            &[],
-            *instant,
-        )),
+        Some(instant) => (!holds(under, &axiom.formula, instant)).then_some(instant),
+        None => (0..spec.instants).find(|instant| !holds(under, &axiom.formula, *instant)),
     }
 }

@@ -2,8 +2,9 @@
 #![tactic(auto)]
 
 mod checker;
+mod interpretation;
 mod terms;
 mod truth;
 mod window;
 
-pub use checker::{Table, Verdict, check};
+pub use checker::{Verdict, check};

@@ -7,9 +7,9 @@ ghost use Rattle.trio_types.specs.World.{values_in};
 ghost use Rattle.trio_types.specs.Cells.{IsTable};
 ghost use Rattle.trio_types.specs.Truth.{truth, is_value, relates, is_iff, far_truth};
 ghost use Rattle.trio_types.specs.Verdict.{world_of};
-ghost use Rattle.history_check.specs.Fits.{FormulaFits, AllFit, QuantifierFits, IsNear, IsWindowOf, IsFirst, IsLast};
+ghost use Rattle.history_check.specs.Fits.{FormulaFits, AllFit, QuantifierFits, IsNear, IsWindowOf, IsFirst, IsLast, IsNearest};
 
-use crate::checker::Table;
+use crate::interpretation::Interpretation;
 use crate::terms::value_of;
 use crate::window::{Window, ahead, at_distance, behind, between, in_future, in_past};
 use trio_base::limits::MOST_OPEN;
@@ -17,119 +17,59 @@ use trio_types::{Ends, FarOp, Formula, OneOp, PairOp, Rel, Spec, size_of, value_
 
 /// Whether a formula is true at an instant, under the values of the variables.
 #[cycle(truth)]
-pub(crate) fn holds(
-    spec: &Spec,
-    table: &Table,
-    formula: &Formula,
-    values: &[i64],
-    instant: u32,
-) -> bool
-    requires table_fits { IsTable (world_of spec.now) table.now }
-    requires formula_fits { FormulaFits (world_of spec.now) formula.now values.now }
-    requires instant_in { instant < spec.now.instants }
-    ensures { result ≡ truth (world_of spec.now) formula.now values.now table.now instant }
+pub(crate) fn holds(under: Interpretation<'_>, formula: &Formula, instant: u32) -> bool
+    requires table_fits { IsTable (world_of under.spec.now) under.table.now }
+    requires formula_fits { FormulaFits (world_of under.spec.now) formula.now under.values.now }
+    requires instant_in { instant < under.spec.now.instants }
+    ensures { result ≡ truth (world_of under.entry.spec.now) formula.now under.entry.values.now under.entry.table.now instant }
 {
     match formula {
-        Formula::Lone(term) => is_one(value_of(spec, table, term, values, instant)),
+        Formula::Lone(term) => is_one(value_of(under, term, instant)),
         Formula::Compare(rel, left, right) => {
-            let left = value_of(spec, table, left, values, instant);
-            let right = value_of(spec, table, right, values, instant);
+            let left = value_of(under, left, instant);
+            let right = value_of(under, right, instant);
             stands(*rel, left, right)
         }
-        Formula::Not(part) => !holds(spec, table, part.get(), values, instant),
-        Formula::And(parts) => all_hold(spec, table, parts.as_slice(), values, instant),
-        Formula::Or(parts) => any_holds(spec, table, parts.as_slice(), values, instant),
+        Formula::Not(part) => !holds(under, part.get(), instant),
+        Formula::And(parts) => all_hold(under, parts.as_slice(), instant),
+        Formula::Or(parts) => any_holds(under, parts.as_slice(), instant),
         Formula::Implies(left, right) => {
-            !holds(spec, table, left.get(), values, instant)
-                || holds(spec, table, right.get(), values, instant)
+            !holds(under, left.get(), instant) || holds(under, right.get(), instant)
         }
         Formula::Iff(left, right) => {
-            let left = holds(spec, table, left.get(), values, instant);
-            let right = holds(spec, table, right.get(), values, instant);
+            let left = holds(under, left.get(), instant);
+            let right = holds(under, right.get(), instant);
             agrees(left, right)
         }
-        Formula::All(_, domain, part) => !for_some(
-            spec,
-            table,
-            *domain,
-            part.get(),
-            values,
-            instant,
-            false,
-        ),
-        Formula::Ex(_, domain, part) => for_some(
-            spec,
-            table,
-            *domain,
-            part.get(),
-            values,
-            instant,
-            true,
-        ),
+        Formula::All(_, domain, part) => !for_some(under, *domain, part.get(), instant, false),
+        Formula::Ex(_, domain, part) => for_some(under, *domain, part.get(), instant, true),
         Formula::One(operator, part) => {
-            let (window, some) = window_of(spec, *operator, instant);
-            agrees(
-                some,
-                somewhere(spec, table, part.get(), values, window, some),
-            )
+            let (window, some) = window_of(under.spec, *operator, instant);
+            agrees(some, somewhere(under, part.get(), window, some))
         }
         Formula::Far(operator, part, distance) => {
-            let distance = value_of(spec, table, distance, values, instant);
-            far_holds(
-                spec,
-                table,
-                *operator,
-                part.get(),
-                values,
-                instant,
-                distance,
-            )
+            let distance = value_of(under, distance, instant);
+            far_holds(under, *operator, part.get(), instant, distance)
         }
-        Formula::Pair(operator, left, right) => match operator {
-            PairOp::Until => {
-                match first_true(
-                    spec,
-                    table,
-                    right.get(),
-                    values,
-                    between(instant, spec.instants),
-                ) {
-                    Some(later) => !somewhere(
-                        spec,
-                        table,
-                        left.get(),
-                        values,
-                        between(instant, later),
-                        false,
-                    ),
-                    None => false,
-                }
-            }
-            PairOp::Since => match last_true(spec, table, right.get(), values, instant) {
-                Some(earlier) => !somewhere(
-                    spec,
-                    table,
-                    left.get(),
-                    values,
-                    between(earlier, instant),
-                    false,
-                ),
+        Formula::Pair(operator, left, right) => {
+            match nearest_true(under, *operator, right.get(), instant) {
+                Some(nearest) => !somewhere(under, left.get(), between(instant, nearest), false),
                 None => false,
-            },
-        },
+            }
+        }
     }
 }
 
 /// Whether all formulas are true at an instant.
 #[cycle(truth)]
-fn all_hold(spec: &Spec, table: &Table, parts: &[Formula], values: &[i64], instant: u32) -> bool
-    requires table_fits { IsTable (world_of spec.now) table.now }
-    requires parts_fit { AllFit (world_of spec.now) parts.now values.now }
-    requires instant_in { instant < spec.now.instants }
-    ensures { result ≡ list_all (λ f. truth (world_of spec.now) f values.now table.now instant) parts.now }
+fn all_hold(under: Interpretation<'_>, parts: &[Formula], instant: u32) -> bool
+    requires table_fits { IsTable (world_of under.spec.now) under.table.now }
+    requires parts_fit { AllFit (world_of under.spec.now) parts.now under.values.now }
+    requires instant_in { instant < under.spec.now.instants }
+    ensures { result ≡ list_all (λ f. truth (world_of under.entry.spec.now) f under.entry.values.now under.entry.table.now instant) parts.now }
 {
     for part in parts {
-        if !holds(spec, table, part, values, instant) {
+        if !holds(under, part, instant) {
             return false;
         }
     }
@@ -138,14 +78,14 @@ fn all_hold(spec: &Spec, table: &Table, parts: &[Formula], values: &[i64], insta
 
 /// Whether one of the formulas is true at an instant.
 #[cycle(truth)]
-fn any_holds(spec: &Spec, table: &Table, parts: &[Formula], values: &[i64], instant: u32) -> bool
-    requires table_fits { IsTable (world_of spec.now) table.now }
-    requires parts_fit { AllFit (world_of spec.now) parts.now values.now }
-    requires instant_in { instant < spec.now.instants }
-    ensures { result ≡ list_any (λ f. truth (world_of spec.now) f values.now table.now instant) parts.now }
+fn any_holds(under: Interpretation<'_>, parts: &[Formula], instant: u32) -> bool
+    requires table_fits { IsTable (world_of under.spec.now) under.table.now }
+    requires parts_fit { AllFit (world_of under.spec.now) parts.now under.values.now }
+    requires instant_in { instant < under.spec.now.instants }
+    ensures { result ≡ list_any (λ f. truth (world_of under.entry.spec.now) f under.entry.values.now under.entry.table.now instant) parts.now }
 {
     for part in parts {
-        if holds(spec, table, part, values, instant) {
+        if holds(under, part, instant) {
             return true;
         }
     }
@@ -155,29 +95,28 @@ fn any_holds(spec: &Spec, table: &Table, parts: &[Formula], values: &[i64], inst
 /// Whether a formula is as wanted for some value of one more variable.
 #[cycle(truth)]
 fn for_some(
-    spec: &Spec,
-    table: &Table,
+    under: Interpretation<'_>,
     domain: u32,
     part: &Formula,
-    values: &[i64],
     instant: u32,
     wanted: bool,
 ) -> bool
-    requires table_fits { IsTable (world_of spec.now) table.now }
-    requires part_fits { QuantifierFits (world_of spec.now) domain part.now values.now }
-    requires instant_in { instant < spec.now.instants }
+    requires table_fits { IsTable (world_of under.spec.now) under.table.now }
+    requires part_fits { QuantifierFits (world_of under.spec.now) domain part.now under.values.now }
+    requires instant_in { instant < under.spec.now.instants }
     ensures { result
-        ≡ list_any (λ z. is_iff wanted (truth (world_of spec.now) part.now (values.now ++ z ∷ []) table.now instant)) (values_in spec.now.domains domain) }
+        ≡ list_any (λ z. is_iff wanted (truth (world_of under.entry.spec.now) part.now (under.entry.values.now ++ z ∷ []) under.entry.table.now instant)) (values_in under.entry.spec.now.domains domain) }
 {
-    let level = values.len();
+    let level = under.values.len();
     let mut inner = [0; MOST_OPEN as usize];
-    inner[..level].copy_from_slice(values);
-    for index in 0..size_of(spec, domain) {
-        inner[level] = value_at(spec, domain, index);
-        if agrees(
-            wanted,
-            holds(spec, table, part, &inner[..level + 1], instant),
-        ) {
+    inner[..level].copy_from_slice(under.values);
+    for index in 0..size_of(under.spec, domain) {
+        inner[level] = value_at(under.spec, domain, index);
+        let further = Interpretation {
+            values: &inner[..level + 1],
+            ..under
+        };
+        if agrees(wanted, holds(further, part, instant)) {
             return true;
         }
     }
@@ -186,21 +125,14 @@ fn for_some(
 
 /// Whether a formula is as wanted at some instant of a window.
 #[cycle(truth)]
-fn somewhere(
-    spec: &Spec,
-    table: &Table,
-    part: &Formula,
-    values: &[i64],
-    window: Window,
-    wanted: bool,
-) -> bool
-    requires table_fits { IsTable (world_of spec.now) table.now }
-    requires part_fits { FormulaFits (world_of spec.now) part.now values.now }
-    requires inside { window.to ≤ spec.now.instants }
-    ensures { result ≡ list_any (λ j. is_iff wanted (truth (world_of spec.now) part.now values.now table.now j)) (range_with_len window.from (window.to - window.from)) }
+fn somewhere(under: Interpretation<'_>, part: &Formula, window: Window, wanted: bool) -> bool
+    requires table_fits { IsTable (world_of under.spec.now) under.table.now }
+    requires part_fits { FormulaFits (world_of under.spec.now) part.now under.values.now }
+    requires inside { window.to ≤ under.spec.now.instants }
+    ensures { result ≡ list_any (λ j. is_iff wanted (truth (world_of under.entry.spec.now) part.now under.entry.values.now under.entry.table.now j)) (range_with_len window.from (window.to - window.from)) }
 {
     for instant in window.from..window.to {
-        if agrees(wanted, holds(spec, table, part, values, instant)) {
+        if agrees(wanted, holds(under, part, instant)) {
             return true;
         }
     }
@@ -210,131 +142,63 @@ fn somewhere(
 /// Whether an operator at a distance is true at an instant.
 #[cycle(truth)]
 fn far_holds(
-    spec: &Spec,
-    table: &Table,
+    under: Interpretation<'_>,
     operator: FarOp,
     part: &Formula,
-    values: &[i64],
     instant: u32,
     distance: Option<i64>,
 ) -> bool
-    requires table_fits { IsTable (world_of spec.now) table.now }
-    requires part_fits { FormulaFits (world_of spec.now) part.now values.now }
-    requires instant_in { instant < spec.now.instants }
+    requires table_fits { IsTable (world_of under.spec.now) under.table.now }
+    requires part_fits { FormulaFits (world_of under.spec.now) part.now under.values.now }
+    requires instant_in { instant < under.spec.now.instants }
     requires near { IsNear distance }
-    ensures { result ≡ far_truth (world_of spec.now) operator (truth (world_of spec.now) part.now values.now table.now) instant distance }
+    ensures { result ≡ far_truth (world_of under.entry.spec.now) operator (truth (world_of under.entry.spec.now) part.now under.entry.values.now under.entry.table.now) instant distance }
 {
-    let instants = spec.instants;
+    let time = under.spec.instants;
     match operator {
-        FarOp::Dist => somewhere(
-            spec,
-            table,
-            part,
-            values,
-            at_distance(instants, instant, distance),
-            true,
-        ),
-        FarOp::Futr => somewhere(
-            spec,
-            table,
-            part,
-            values,
-            in_future(instants, instant, distance),
-            true,
-        ),
-        FarOp::Past => somewhere(
-            spec,
-            table,
-            part,
-            values,
-            in_past(instants, instant, distance),
-            true,
-        ),
+        FarOp::Dist => somewhere(under, part, at_distance(time, instant, distance), true),
+        FarOp::Futr => somewhere(under, part, in_future(time, instant, distance), true),
+        FarOp::Past => somewhere(under, part, in_past(time, instant, distance), true),
         FarOp::NextTime => {
-            somewhere(
-                spec,
-                table,
-                part,
-                values,
-                in_future(instants, instant, distance),
-                true,
-            ) && !somewhere(
-                spec,
-                table,
-                part,
-                values,
-                ahead(instants, Ends::Bare, instant, distance),
-                true,
-            )
+            somewhere(under, part, in_future(time, instant, distance), true)
+                && !somewhere(
+                    under,
+                    part,
+                    ahead(time, Ends::Bare, instant, distance),
+                    true,
+                )
         }
         FarOp::LastTime => {
-            somewhere(
-                spec,
-                table,
-                part,
-                values,
-                in_past(instants, instant, distance),
-                true,
-            ) && !somewhere(
-                spec,
-                table,
-                part,
-                values,
-                behind(instants, Ends::Bare, instant, distance),
-                true,
-            )
+            somewhere(under, part, in_past(time, instant, distance), true)
+                && !somewhere(
+                    under,
+                    part,
+                    behind(time, Ends::Bare, instant, distance),
+                    true,
+                )
         }
-        FarOp::Lasts(ends) => !somewhere(
-            spec,
-            table,
-            part,
-            values,
-            ahead(instants, ends, instant, distance),
-            false,
-        ),
-        FarOp::WithinF(ends) => somewhere(
-            spec,
-            table,
-            part,
-            values,
-            ahead(instants, ends, instant, distance),
-            true,
-        ),
+        FarOp::Lasts(ends) => !somewhere(under, part, ahead(time, ends, instant, distance), false),
+        FarOp::WithinF(ends) => somewhere(under, part, ahead(time, ends, instant, distance), true),
         FarOp::Lasted(ends) => !somewhere(
-            spec,
-            table,
+            under,
             part,
-            values,
-            behind(instants, ends, instant, distance),
+            behind(time, ends, instant, distance),
             false,
         ),
-        FarOp::WithinP(ends) => somewhere(
-            spec,
-            table,
-            part,
-            values,
-            behind(instants, ends, instant, distance),
-            true,
-        ),
+        FarOp::WithinP(ends) => somewhere(under, part, behind(time, ends, instant, distance), true),
     }
 }
 
 /// The first instant of a window at which a formula is true.
 #[cycle(truth)]
-fn first_true(
-    spec: &Spec,
-    table: &Table,
-    part: &Formula,
-    values: &[i64],
-    window: Window,
-) -> Option<u32>
-    requires table_fits { IsTable (world_of spec.now) table.now }
-    requires part_fits { FormulaFits (world_of spec.now) part.now values.now }
-    requires inside { window.to ≤ spec.now.instants }
-    ensures { IsFirst (truth (world_of spec.now) part.now values.now table.now) window.from window.to result }
+fn first_true(under: Interpretation<'_>, part: &Formula, window: Window) -> Option<u32>
+    requires table_fits { IsTable (world_of under.spec.now) under.table.now }
+    requires part_fits { FormulaFits (world_of under.spec.now) part.now under.values.now }
+    requires inside { window.to ≤ under.spec.now.instants }
+    ensures { IsFirst (truth (world_of under.entry.spec.now) part.now under.entry.values.now under.entry.table.now) window.from window.to result }
 {
     for instant in window.from..window.to {
-        if holds(spec, table, part, values, instant) {
+        if holds(under, part, instant) {
             return Some(instant);
         }
     }
@@ -343,18 +207,37 @@ fn first_true(
 
 /// The last instant before another at which a formula is true.
 #[cycle(truth)]
-fn last_true(spec: &Spec, table: &Table, part: &Formula, values: &[i64], before: u32) -> Option<u32>
-    requires table_fits { IsTable (world_of spec.now) table.now }
-    requires part_fits { FormulaFits (world_of spec.now) part.now values.now }
-    requires inside { before ≤ spec.now.instants }
-    ensures { IsLast (truth (world_of spec.now) part.now values.now table.now) before result }
+fn last_true(under: Interpretation<'_>, part: &Formula, before: u32) -> Option<u32>
+    requires table_fits { IsTable (world_of under.spec.now) under.table.now }
+    requires part_fits { FormulaFits (world_of under.spec.now) part.now under.values.now }
+    requires inside { before ≤ under.spec.now.instants }
+    ensures { IsLast (truth (world_of under.entry.spec.now) part.now under.entry.values.now under.entry.table.now) before result }
 {
     for instant in (0..before).rev() {
-        if holds(spec, table, part, values, instant) {
+        if holds(under, part, instant) {
             return Some(instant);
         }
     }
     None
+}
+
+/// The instant nearest to another, on the side of it that the operator speaks of, at which a formula is true.
+#[cycle(truth)]
+fn nearest_true(
+    under: Interpretation<'_>,
+    operator: PairOp,
+    part: &Formula,
+    instant: u32,
+) -> Option<u32>
+    requires table_fits { IsTable (world_of under.spec.now) under.table.now }
+    requires part_fits { FormulaFits (world_of under.spec.now) part.now under.values.now }
+    requires instant_in { instant < under.spec.now.instants }
+    ensures { IsNearest (world_of under.entry.spec.now) operator (truth (world_of under.entry.spec.now) part.now under.entry.values.now under.entry.table.now) instant result }
+{
+    match operator {
+        PairOp::Until => first_true(under, part, between(instant, under.spec.instants)),
+        PairOp::Since => last_true(under, part, instant),
+    }
 }
 
 /// The instants that an operator on one formula speaks of, and whether it speaks of some of them or of each.

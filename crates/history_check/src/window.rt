@@ -1,7 +1,7 @@
 //! The instants inside time that an operator speaks of: neighboring ones, from the first up to the last.
 ghost use Rattle.std.specs.Prelude.{◌≡◌, ◌<◌, ◌+◌, ◌-◌, ◌^◌, ◌&&◌, pos, neg_ℤ, int_le, int_lt, option_map};
 ghost use Rattle.trio_types.specs.Truth.{is_at_distance, is_not_negative, is_ahead, is_behind};
-ghost use Rattle.history_check.specs.Fits.{Selects, IsNear};
+ghost use Rattle.history_check.specs.Fits.{Selects, IsNear, IsBetween};
 
 use trio_types::Ends;
 
@@ -26,15 +26,15 @@ fn inside(instants: u32, from: i64, to: i64) -> Window
     }
 }
 
-/// The instants after one and before another.
-pub(crate) fn between(first: u32, last: u32) -> Window
-    requires { first < 2 ^ 32 - 1 }
-    ensures from { result.from ≡ first + 1 }
-    ensures to { result.to ≡ last }
+/// The instants between two, whichever of them is the first.
+pub(crate) fn between(one: u32, other: u32) -> Window
+    requires one_small { one < 2 ^ 32 - 1 }
+    requires other_small { other < 2 ^ 32 - 1 }
+    ensures { IsBetween one other result.from result.to }
 {
     Window {
-        from: first + 1,
-        to: last,
+        from: one.min(other) + 1,
+        to: one.max(other),
     }
 }
 

@@ -1,12 +1,13 @@
--- What a shelf in memory holds and counts, and what it answers.
+-- What shelves in memory hold and count, and what they answer.
 use Rattle.std.specs.Prelude.{ℕ, ◌==◌, Bool, true, false, List, length, Option, Some, None, Result, Ok, Err, if◌then◌else◌}
 use Rattle.std.specs.Bool.{nat_lt}
 use Rattle.std.specs.List.{list_any}
 use Rattle.std.specs.Option.{option_map}
 use Rattle.std.specs.BTreeMap.{get_by_text}
-use Rattle.trio_io.specs.Outside.{FileMap, ShelfCounts, raised}
+use Rattle.trio_io.specs.Outside.{FileMap, ShelfCounts, ShelfView, raised}
 use Rattle.trio_io.specs.declared.files.Files.{Files}
 use Rattle.trio_io.specs.declared.memory_shelf.MemShelf.{MemShelf}
+use Rattle.trio_io.specs.declared.sure.SureShelf.{SureShelf}
 use Rattle.trio_io.specs.declared.shelf.ShelfFault.{ShelfFault}
 use Rattle.trio_io.specs.declared.shelf.ShelfFault.TheVariants as fault
 
@@ -24,6 +25,10 @@ mem_counts shelf = record {
   failed_puts = shelf.failed_puts;
   calls = shelf.calls;
 }
+
+-- It tells its files.
+abbrev pub mem_seen : MemShelf → ShelfView
+mem_seen shelf = record { tells = true; file = mem_files shelf; counts = mem_counts shelf }
 
 -- Whether the next call is one of those that fail; calls are counted from 1.
 abbrev pub mem_fails : MemShelf → Bool
@@ -50,3 +55,11 @@ put_counts false before = record before { calls = raised before.calls }
 abbrev pub put_answer : Bool → Result (Unit {0}) ShelfFault
 put_answer true = Err fault.Failed
 put_answer false = Ok tt
+
+-- What a shelf whose calls never fail holds and counts: absences alone.
+abbrev pub sure_seen : SureShelf → ShelfView
+sure_seen shelf = record {
+  tells = true;
+  file = files_of shelf.files;
+  counts = record { absences = shelf.absences; failed_fetches = 0; failed_puts = 0; calls = 0 };
+}

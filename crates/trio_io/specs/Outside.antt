@@ -1,5 +1,6 @@
 -- What the contracts of shelves, sinks and bells say: counts that rise, files by name, bytes that were written.
-use Rattle.std.specs.Prelude.{◌≡◌, ℕ, ◌+◌, ◌-◌, ◌^◌, ◌<◌, ◌≤◌, min, Bool, true, false, List, ◌++◌, length, Option, Some, None, ◌⊎◌}
+use Rattle.std.specs.Prelude.{◌≡◌, ℕ, ◌+◌, ◌-◌, ◌^◌, ◌<◌, ◌≤◌, min, Bool, true, false, List, ◌++◌, length, Option, Some, None, ◌⊎◌, IsSomeAnd, Result, Ok, Err}
+use Rattle.trio_io.specs.declared.sink.SinkFault.{SinkFault}
 
 -- What a shelf holds: the bytes of the file under each name, where there is one.
 abbrev pub FileMap : Type 0
@@ -20,6 +21,12 @@ pub record ShelfCounts : Type 0 where
   pub failed_puts : ℕ
   pub calls : ℕ
 
+-- What a shelf is seen as: whether it tells its files, the files, and its counts. The files say nothing of a shelf that does not tell.
+pub record ShelfView : Type 0 where
+  pub tells : Bool
+  pub file : FileMap
+  pub counts : ShelfCounts
+
 -- No count fell, and the count of calls rose by at most this many.
 pub record IsLater (most : ℕ) (before now : ShelfCounts) : Type 0 where
   pub absences : before.absences ≤ now.absences
@@ -28,28 +35,71 @@ pub record IsLater (most : ℕ) (before now : ShelfCounts) : Type 0 where
   pub calls : before.calls ≤ now.calls
   pub at_most : now.calls ≤ before.calls + most
 
+-- No fault was counted.
+pub record SameFaults (before now : ShelfCounts) : Type 0 where
+  pub absences : now.absences ≡ before.absences
+  pub failed_fetches : now.failed_fetches ≡ before.failed_fetches
+  pub failed_puts : now.failed_puts ≡ before.failed_puts
+
+-- What reading leaves: every file, and whether the shelf tells; the count of calls rose by at most this many, and no count fell.
+pub record OnlyReads (most : ℕ) (before now : ShelfView) : Type 0 where
+  pub files : (name : List ℕ) → now.file name ≡ before.file name
+  pub tells : now.tells ≡ before.tells
+  pub counts : IsLater most before.counts now.counts
+
+-- Where the shelf tells its files, this is what stands under the name.
+abbrev pub Holds : ShelfView → List ℕ → Option (List ℕ) → Type 0
+Holds shelf name file = shelf.tells ≡ true → shelf.file name ≡ file
+
+-- Where the shelf tells its files, there is one under the name, and it is longer.
+abbrev pub IsLonger : ShelfView → List ℕ → ℕ → Type 0
+IsLonger shelf name max = shelf.tells ≡ true → IsSomeAnd (shelf.file name) (λ bytes. max < length bytes)
+
 -- At most `max` bytes were appended, and where the files are told they are the bytes of the file.
-pub record Fetched (tells : Bool) (file : Option (List ℕ)) (max : ℕ) (old new : List ℕ) : Type 0 where
+pub record Fetched (shelf : ShelfView) (name : List ℕ) (max : ℕ) (old new : List ℕ) : Type 0 where
   pub bytes : List ℕ
   pub added : new ≡ old ++ bytes
   pub within : length bytes ≤ max
-  pub told : tells ≡ true → file ≡ Some bytes
+  pub told : Holds shelf name (Some bytes)
 
 -- Why a fetch failed: a failure was counted, or an absence was, and where the files are told there is no such file.
-abbrev pub HasFetchCause : ShelfCounts → ShelfCounts → Bool → Option (List ℕ) → Type 0
-HasFetchCause before now tells file = Rose before.failed_fetches now.failed_fetches
-    ⊎ (Rose before.absences now.absences × (tells ≡ true → file ≡ None))
+abbrev pub HasFetchCause : ShelfView → ShelfView → List ℕ → Type 0
+HasFetchCause before now name = Rose before.counts.failed_fetches now.counts.failed_fetches
+    ⊎ (Rose before.counts.absences now.counts.absences × Holds before name None)
+
+-- What a sink is seen as: whether it tells what was written, that, and the count of its faults. What was written says nothing of a sink that
+-- does not tell.
+pub record SinkView : Type 0 where
+  pub tells : Bool
+  pub written : List ℕ
+  pub faults : ℕ
+
+-- The count of faults did not fall, and the sink tells what was written as it did before.
+pub record StaysSink (before now : SinkView) : Type 0 where
+  pub faults : before.faults ≤ now.faults
+  pub tells : now.tells ≡ before.tells
 
 -- Where the sink tells it, exactly these bytes were written.
-abbrev pub Writes : Bool → List ℕ → List ℕ → List ℕ → Type 0
-Writes tells old new bytes = tells ≡ true → new ≡ old ++ bytes
+abbrev pub Writes : SinkView → SinkView → List ℕ → Type 0
+Writes before now bytes = before.tells ≡ true → now.written ≡ before.written ++ bytes
 
--- A front of the bytes was written.
-pub record WritesFront (tells : Bool) (old new bytes : List ℕ) : Type 0 where
+-- A front of the bytes was written, and the rest was not.
+pub record WritesFront (before now : SinkView) (bytes : List ℕ) : Type 0 where
   pub front : List ℕ
   pub rest : List ℕ
   pub parts : bytes ≡ front ++ rest
-  pub written : tells ≡ true → new ≡ old ++ front
+  pub written : Writes before now front
+
+-- A write failed: it was counted, and a front of the bytes was written that is not the whole.
+pub record WritesPart (before now : SinkView) (bytes : List ℕ) : Type 0 where
+  pub counted : Rose before.faults now.faults
+  pub front : WritesFront before now bytes
+  pub unfinished : 0 < length front.rest
+
+-- What a writing of these bytes did: all of them went out, or a write failed.
+abbrev pub Wrote : SinkView → SinkView → List ℕ → Result (Unit {0}) SinkFault → Type 0
+Wrote before now bytes (Ok done) = Writes before now bytes
+Wrote before now bytes (Err f) = WritesPart before now bytes
 
 -- What an ask does: it is true only at an armed bell whose count of rings rose; a false one may count as a quiet ask.
 abbrev pub Asked : Bool → Option ℕ → ℕ → ℕ → ℕ → ℕ → Type 0

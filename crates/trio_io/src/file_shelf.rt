@@ -1,6 +1,7 @@
 //! The shelf of the real files. It tells nothing of what they hold.
-ghost use Rattle.std.specs.Prelude.{◌≡◌, ◌++◌, ◌<◌, false, None, List, length, IfSome, OnOk, OnErr};
-ghost use Rattle.trio_io.specs.Outside.{Fetched};
+ghost use Rattle.std.specs.Prelude.{◌≡◌, ◌++◌, ◌<◌, false, List, ℕ, length, IfSome, OnOk, OnErr};
+ghost use Rattle.trio_io.specs.Outside.{ShelfView, Fetched};
+ghost use Rattle.trio_io.specs.RealShelf.{untold};
 
 use crate::shelf::{Shelf, ShelfFault};
 use std::fs;
@@ -13,8 +14,8 @@ use std::rt::Files;
 #[derive(Drop)]
 pub struct FileShelf<'a, R: Files> {
     rt: &'a R,
-    failed_fetches: u64,
-    failed_puts: u64,
+    pub(crate) failed_fetches: u64,
+    pub(crate) failed_puts: u64,
 }
 
 impl<'a, R: Files> FileShelf<'a, R> {
@@ -31,11 +32,7 @@ impl<'a, R: Files> FileShelf<'a, R> {
 }
 
 impl<'a, R: Files> Shelf for FileShelf<'a, R> {
-    ghost tells = { λ _. false };
-
-    ghost file = { λ _ _. None };
-
-    ghost counts = { λ shelf. record { absences = 0; failed_fetches = shelf.failed_fetches; failed_puts = shelf.failed_puts; calls = 0 } };
+    ghost seen = { λ shelf. untold shelf.failed_fetches shelf.failed_puts };
 
     fn fetch(&mut self, name: &str, max: u64, into: &mut Vec<u8>) -> Result<(), ShelfFault> {
         let read = match File::open(self.rt, name) {
@@ -61,7 +58,7 @@ impl<'a, R: Files> Shelf for FileShelf<'a, R> {
 
 /// Appends all that the reader has left, where that is at most `max` bytes.
 fn read_up_to<R: Read + Drop>(reader: R, max: u64, into: &mut Vec<u8>) -> Result<(), ShelfFault>
-    ensures ok { OnOk result (Fetched false None max into.old.items into.new.items) }
+    ensures ok { OnOk result ((shelf : ShelfView) (name : List ℕ) → shelf.tells ≡ false → Fetched shelf name max into.old.items into.new.items) }
     ensures told { OnOk result (IfSome (R.remaining reader) (λ bytes. into.new.items ≡ into.old.items ++ bytes)) }
     ensures long { result ≡ Err ShelfFault.TooLong → IfSome (R.remaining reader) (λ bytes. max < length bytes) }
     ensures err { OnErr result (into.new.items ≡ into.old.items) }

@@ -5,20 +5,27 @@
 mod bell;
 mod file_shelf;
 mod files;
+mod laws;
 mod memory_shelf;
 mod memory_sink;
 mod out_sink;
 mod shelf;
 mod sink;
+mod sure;
 
 pub use bell::{Bell, StillBell};
 pub use file_shelf::FileShelf;
 pub use files::{Counts, Files};
+pub use laws::{
+    count_that_rose_is_greater, greater_count_rose, written_bytes_stand_behind,
+    written_front_stands_behind,
+};
 pub use memory_shelf::MemShelf;
 pub use memory_sink::MemSink;
 pub use out_sink::OutSink;
 pub use shelf::{Shelf, ShelfFault};
-pub use sink::{Sink, SinkFault, write_whole};
+pub use sink::{Sink, SinkFault, write_pieces, write_whole};
+pub use sure::{SureShelf, SureSink};
 
 #[cfg(test)]
 mod tests;

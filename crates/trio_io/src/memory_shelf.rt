@@ -1,8 +1,8 @@
 //! A shelf in memory, which tells all that it holds.
 ghost use Rattle.std.specs.Prelude.{◌≡◌, ◌≢◌, ◌⊎◌, ℕ, ◌<◌, Bool, true, false, List, length, IsSomeAnd, IfOk, OnOk, OnErr};
 ghost use Rattle.std.specs.Option.{option_map};
-ghost use Rattle.trio_io.specs.Outside.{FileMap, ShelfCounts, IsLater, Fetched, HasFetchCause, Rose};
-ghost use Rattle.trio_io.specs.MemoryShelf.{files_of, mem_files, mem_counts, mem_fails, fetch_counts, fetch_answer, put_counts, put_answer};
+ghost use Rattle.trio_io.specs.Outside.{OnlyReads, IsLater, SameFaults, Fetched, HasFetchCause, Holds, IsLonger, Rose};
+ghost use Rattle.trio_io.specs.MemoryShelf.{files_of, mem_files, mem_counts, mem_seen, mem_fails, fetch_counts, fetch_answer, put_counts, put_answer};
 
 use crate::files::{Counts, Files};
 use crate::shelf::{Shelf, ShelfFault};
@@ -57,18 +57,14 @@ impl MemShelf {
 }
 
 impl Shelf for MemShelf {
-    ghost tells = { λ _. true };
-
-    ghost file = { mem_files };
-
-    ghost counts = { mem_counts };
+    ghost seen = { mem_seen };
 
     fn fetch(&mut self, name: &str, max: u64, into: &mut Vec<u8>) -> Result<(), ShelfFault>
-        ensures later { IsLater 1 (mem_counts self.old) (mem_counts self.new) }
-        ensures files { (n : List ℕ) → mem_files self.new n ≡ mem_files self.old n }
-        ensures ok { OnOk result (Fetched true (mem_files self.old name.now) max into.old.items into.new.items) }
-        ensures failed { result ≡ Err ShelfFault.Failed → HasFetchCause (mem_counts self.old) (mem_counts self.new) true (mem_files self.old name.now) }
-        ensures long { result ≡ Err ShelfFault.TooLong → IsSomeAnd (mem_files self.old name.now) (λ bytes. max < length bytes) }
+        ensures reads { OnlyReads 1 (mem_seen self.old) (mem_seen self.new) }
+        ensures ok { OnOk result (Fetched (mem_seen self.old) name.now max into.old.items into.new.items) }
+        ensures calm { OnOk result (SameFaults (mem_counts self.old) (mem_counts self.new)) }
+        ensures failed { result ≡ Err ShelfFault.Failed → HasFetchCause (mem_seen self.old) (mem_seen self.new) name.now }
+        ensures long { result ≡ Err ShelfFault.TooLong → IsLonger (mem_seen self.old) name.now max }
         ensures err { OnErr result (into.new.items ≡ into.old.items) }
         ensures answer { (result ≡ fetch_answer (mem_fails self.old) (mem_files self.old name.now) max) ⊎ (result ≡ Err ShelfFault.Memory) }
         ensures counted { mem_counts self.new ≡ fetch_counts (mem_fails self.old) (mem_files self.old name.now) (mem_counts self.old) }
@@ -94,7 +90,8 @@ impl Shelf for MemShelf {
     fn put(&mut self, name: &str, bytes: &[u8]) -> Result<(), ShelfFault>
         ensures later { IsLater 1 (mem_counts self.old) (mem_counts self.new) }
         ensures others { (n : List ℕ) → n ≢ name.now → mem_files self.new n ≡ mem_files self.old n }
-        ensures ok { OnOk result (mem_files self.new name.now ≡ Some bytes.now) }
+        ensures ok { OnOk result (Holds (mem_seen self.new) name.now (Some bytes.now)) }
+        ensures calm { OnOk result (SameFaults (mem_counts self.old) (mem_counts self.new)) }
         ensures failed { result ≡ Err ShelfFault.Failed → Rose (mem_counts self.old).failed_puts (mem_counts self.new).failed_puts }
         ensures long { result ≢ Err ShelfFault.TooLong }
         ensures kept { OnErr result ((n : List ℕ) → mem_files self.new n ≡ mem_files self.old n) }

@@ -52,24 +52,20 @@ impl MemSink {
 }
 
 impl Sink for MemSink {
-    ghost use Rattle.trio_io.specs.Outside.{Rose, raised};
-    ghost use Rattle.trio_io.specs.MemorySink.{mem_written, mem_faults, write_answer};
+    ghost use Rattle.trio_io.specs.Outside.{StaysSink, Writes, Rose, raised};
+    ghost use Rattle.trio_io.specs.MemorySink.{mem_written, mem_faults, mem_sink_seen, write_answer};
 
-    ghost tells = { λ _. true };
-
-    ghost written = { mem_written };
-
-    ghost faults = { mem_faults };
+    ghost seen = { mem_sink_seen };
 
     fn write(&mut self, piece: &[u8]) -> Result<usize, SinkFault>
-        ensures later { mem_faults self.old ≤ mem_faults self.new }
+        ensures stays { StaysSink (mem_sink_seen self.old) (mem_sink_seen self.new) }
         ensures took { IfOk result (λ n. n ≤ length piece.now) }
         ensures some { IfOk result (λ n. 0 < length piece.now → 0 < n) }
-        ensures ok { IfOk result (λ n. mem_written self.new ≡ mem_written self.old ++ take n piece.now) }
+        ensures ok { IfOk result (λ n. Writes (mem_sink_seen self.old) (mem_sink_seen self.new) (take n piece.now)) }
+        ensures calm { IfOk result (λ n. mem_faults self.new ≡ mem_faults self.old) }
         ensures failed { OnErr result (Rose (mem_faults self.old) (mem_faults self.new)) }
-        ensures err { OnErr result (mem_written self.new ≡ mem_written self.old) }
+        ensures err { OnErr result (Writes (mem_sink_seen self.old) (mem_sink_seen self.new) []) }
         ensures empty { length piece.now ≡ 0 → IsOk result }
-        ensures uncounted { length piece.now ≡ 0 → mem_faults self.new ≡ mem_faults self.old }
         ensures answer { result ≡ write_answer self.old (length piece.now) }
         ensures faults { mem_faults self.new ≡ (if is_ok result then mem_faults self.old else raised (mem_faults self.old)) }
         ensures writes { self.new.writes ≡ (if length piece.now == 0 then self.old.writes else raised self.old.writes) }

@@ -7,7 +7,7 @@ use crate::sink::{Sink, SinkFault};
 #[derive(Drop)]
 pub struct OutSink<'a, R: Print> {
     rt: &'a R,
-    faults: u64,
+    pub(crate) faults: u64,
 }
 
 impl<'a, R: Print> OutSink<'a, R> {
@@ -20,11 +20,7 @@ impl<'a, R: Print> OutSink<'a, R> {
 }
 
 impl<'a, R: Print> Sink for OutSink<'a, R> {
-    ghost tells = { λ _. false };
-
-    ghost written = { λ _. [] };
-
-    ghost faults = { λ sink. sink.faults };
+    ghost seen = { λ sink. record { tells = false; written = []; faults = sink.faults } };
 
     fn write(&mut self, piece: &[u8]) -> Result<usize, SinkFault> {
         if piece.is_empty() {

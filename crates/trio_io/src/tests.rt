@@ -1,13 +1,16 @@
-//! Each form once: files, sinks and bells in memory, and a real file.
+//! Each form once: files, sinks and bells in memory, real files, and printers that take little.
 ghost use Rattle.std.specs.Prelude.{◌≡◌, ◌<◌, None};
 
 use crate::{
     Bell, Counts, FileShelf, Files, MemShelf, MemSink, OutSink, Shelf, ShelfFault, Sink, SinkFault,
-    StillBell, write_whole,
+    StillBell, SureShelf, SureSink, write_pieces, write_whole,
 };
 use std::alloc::{AllocError, Global};
+use std::cell::Cell;
+use std::fmt::Display;
 use std::process::Abort;
 use std::test::Fail;
+use std::{fs, io};
 
 fn counts(alloc: Global, numbers: &[u64]) -> Result<Counts, AllocError> {
     Counts::from_slice(alloc, numbers)
@@ -138,16 +141,101 @@ fn file_row<S: Shelf>(
 }
 
 #[test]
-fn real_files_are_put_and_fetched(rt: HostRuntime) -> Result<(), Fail> {
-    let mut shelf = FileShelf::new(&rt);
-    assert_eq!(rt; shelf.put("a", b"longer"), Ok(()));
-    assert_eq!(rt; shelf.put("a", b"abc"), Ok(()));
+fn sure_shelf_fetches_and_puts(rt: HostRuntime) -> Result<(), Fail> {
+    let mut files = Files::new(rt.alloc());
+    files.push("a", b"abc")?;
+    let mut shelf = SureShelf::new(rt.alloc(), files)?;
     file_row(&rt, &mut shelf, "a", 3, Ok(()), b">abc")?;
-    file_row(&rt, &mut shelf, "a", u64::MAX, Ok(()), b">abc")?;
     file_row(&rt, &mut shelf, "a", 2, Err(ShelfFault::TooLong), b">")?;
     file_row(&rt, &mut shelf, "b", 3, Err(ShelfFault::Failed), b">")?;
-    assert_eq!(rt; shelf.put("b/c", b"abc"), Err(ShelfFault::Failed));
+    assert_eq!(rt; shelf.put("b", b"d"), Ok(()));
+    file_row(&rt, &mut shelf, "b", 3, Ok(()), b">d")
+}
+
+#[test]
+fn real_files_are_put_and_fetched(rt: HostRuntime) -> Result<(), Fail> {
+    let mut shelf = FileShelf::new(&rt);
+    assert_eq!(rt; shelf.put("trio_io_file", b"longer"), Ok(()));
+    assert_eq!(rt; shelf.put("trio_io_file", b"abc"), Ok(()));
+    file_row(&rt, &mut shelf, "trio_io_file", 3, Ok(()), b">abc")?;
+    file_row(&rt, &mut shelf, "trio_io_file", u64::MAX, Ok(()), b">abc")?;
+    file_row(
+        &rt,
+        &mut shelf,
+        "trio_io_file",
+        2,
+        Err(ShelfFault::TooLong),
+        b">",
+    )?;
+    assert!(rt; fs::remove_file(&rt, "trio_io_file").is_ok());
+    assert_eq!(rt; (shelf.failed_fetches, shelf.failed_puts), (0, 0));
     Ok(())
+}
+
+#[test]
+fn real_failures_are_counted(rt: HostRuntime) -> Result<(), Fail> {
+    let mut shelf = FileShelf::new(&rt);
+    assert!(rt; fs::create_dir(&rt, "trio_io_folder").is_ok());
+    let failed = Err(ShelfFault::Failed);
+    file_row(&rt, &mut shelf, "trio_io_folder", 3, failed, b">")?;
+    assert_eq!(rt; shelf.put("trio_io_folder", b"abc"), failed);
+    assert!(rt; fs::remove_dir(&rt, "trio_io_folder").is_ok());
+    assert_eq!(rt; (shelf.failed_fetches, shelf.failed_puts), (1, 1));
+    file_row(&rt, &mut shelf, "trio_io_none", 3, failed, b">")?;
+    assert_eq!(rt; shelf.put("trio_io_none/a", b"abc"), failed);
+    assert_eq!(rt; (shelf.failed_fetches, shelf.failed_puts), (2, 2));
+    Ok(())
+}
+
+/// Takes at most so many bytes at a time, and keeps the last eight of them as the digits of a number.
+#[derive(Drop)]
+struct Printer {
+    most: usize,
+    taken: Cell<u64>,
+}
+
+impl Print for Printer {
+    fn print<D: Display + Drop>(&self, _value: D) -> io::Result<()> {
+        Ok(())
+    }
+
+    fn println<D: Display + Drop>(&self, _value: D) -> io::Result<()> {
+        Ok(())
+    }
+
+    fn write_all(&self, _bytes: &[u8]) -> io::Result<()> {
+        Ok(())
+    }
+
+    fn write_some(&self, bytes: &[u8]) -> io::Result<usize> {
+        let count = bytes.len().min(self.most);
+        for byte in &bytes[..count] {
+            let digit = *byte as u64;
+            self.taken
+                .set(self.taken.get().wrapping_mul(256).wrapping_add(digit));
+        }
+        Ok(count)
+    }
+}
+
+/// What is written of `abc` to a printer that takes so many bytes at a time: the answer, the bytes as a number, and the faults.
+fn printed(most: usize) -> (Result<(), SinkFault>, u64, u64) {
+    let printer = Printer {
+        most,
+        taken: Cell::new(0),
+    };
+    let mut sink = OutSink::new(&printer);
+    let answer = write_whole(&mut sink, b"abc");
+    let faults = sink.faults;
+    (answer, printer.taken.get(), faults)
+}
+
+#[test]
+fn printers_take_pieces(rt: HostRuntime) {
+    assert_eq!(rt; printed(9), (Ok(()), 0x616263, 0));
+    assert_eq!(rt; printed(2), (Ok(()), 0x616263, 0));
+    assert_eq!(rt; printed(1), (Ok(()), 0x616263, 0));
+    assert_eq!(rt; printed(0), (Err(SinkFault::Failed), 0, 1));
 }
 
 #[test]
@@ -155,4 +243,23 @@ fn standard_output_takes_all(rt: HostRuntime) {
     let mut sink = OutSink::new(&rt);
     assert_eq!(rt; sink.write(b""), Ok(0));
     assert_eq!(rt; write_whole(&mut sink, b"written\n"), Ok(()));
+    assert_eq!(rt; sink.faults, 0);
+}
+
+#[test]
+fn pieces_go_out_in_order(rt: HostRuntime) -> Result<(), Fail> {
+    assert_eq!(rt; write_pieces(&mut SureSink::new(), &["a", "b"]), Ok(()));
+    let rows: [(u64, Result<(), SinkFault>, &str); 4] = [
+        (0, Ok(()), "abcde"),
+        (1, Err(SinkFault::Failed), ""),
+        (2, Err(SinkFault::Failed), "ab"),
+        (3, Ok(()), "abcde"),
+    ];
+    for (failing, answer, written) in rows {
+        let failing = counts(rt.alloc(), &[failing])?;
+        let mut sink = MemSink::new(rt.alloc(), 9, 9, failing)?;
+        assert_eq!(rt; write_pieces(&mut sink, &["ab", "", "cde"]), answer);
+        assert_eq!(rt; sink.written(), written.as_bytes());
+    }
+    Ok(())
 }

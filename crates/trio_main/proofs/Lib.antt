@@ -1,4 +1,10 @@
-pub mod Verdicts
+pub mod CheckOne
+pub mod CheckTold
+pub mod Checks
+pub mod FileFaults
+pub mod Histories
 pub mod Jobs
+pub mod Loaded
+pub mod Pieces
 pub mod Tellings
-pub mod Determined
+pub mod Yielded

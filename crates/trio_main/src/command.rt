@@ -1,6 +1,6 @@
 //! The words of the command line.
 ghost use Rattle.std.specs.Prelude.{◌≡◌, ◌∷◌, [], IfOk};
-ghost use Rattle.trio_main.specs.Words.{words_of, command_of, names_a_file};
+ghost use Rattle.trio_main.specs.Command.{words_of, command_of, names_a_file};
 
 use std::alloc::Global;
 use trio_base::Name;
@@ -10,17 +10,6 @@ use trio_base::Name;
 pub enum Command {
     /// Whether a history satisfies a specification: the names of the specification's and the history's file.
     Check(Name, Name),
-}
-
-impl Command {
-    /// The names of the specification's and the history's file.
-    pub fn names(&self) -> (&Name, &Name)
-        ensures { self.now ≡ Command.Check result.0.now result.1.now }
-    {
-        match self {
-            Command::Check(spec, history) => (spec, history),
-        }
-    }
 }
 
 /// Why words are no command.

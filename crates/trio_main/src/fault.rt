@@ -1,7 +1,15 @@
 //! Why a command could not answer.
+ghost use Rattle.std.specs.Prelude.{◌≡◌, ◌<◌, ◌⊎◌, ℕ, length};
+ghost use Rattle.trio_types.specs.Cells.{rows_of};
+ghost use Rattle.trio_types.specs.Verdict.{world_of};
+ghost use Rattle.trio_main.specs.Fault.{status_of, spec_refusal, history_refusal};
+
 use crate::status::Status;
-use history_check::table::HistFault;
+use history_table::{HistFault, row_name};
+use std::alloc::Global;
+use trio_base::Name;
 use trio_reader::SpecFault;
+use trio_types::Spec;
 
 /// A text that a command reads.
 #[derive(Clone, Copy, Debug, PartialEq, Eq)]
@@ -10,8 +18,8 @@ pub enum Text {
     History,
 }
 
-/// Why a command could not answer.
-#[derive(Clone, Copy, Debug, PartialEq, Eq)]
+/// Why a command could not answer. No fault that the readers' refusals become has an inner want of memory, or a missing row without its name.
+#[derive(Debug, Drop)]
 pub enum Fault {
     /// A file is not there, or could not be read.
     Read,
@@ -21,6 +29,10 @@ pub enum Fault {
     Spec(SpecFault),
     /// The history's text is refused.
     History(HistFault),
+    /// The history has no line for the row of this name.
+    Missing(Name),
+    /// The history does not know the value of this row at this instant, which the command needs.
+    Unknown(Name, u32),
     /// A write failed.
     Write,
     /// Want of memory.
@@ -28,22 +40,28 @@ pub enum Fault {
 }
 
 impl Fault {
-    ghost use Rattle.std.specs.Prelude.{◌≡◌};
-    ghost use Rattle.trio_main.specs.Messages.{message, status_of, IsSayable};
-
-    /// The line that is written for the fault; none for a failed write.
-    pub fn message(&self) -> &'static str
-        requires { IsSayable self.now }
-        ensures { result.now ≡ message self.now }
+    /// The refusal of a specification's text.
+    pub fn of_spec(fault: SpecFault) -> Fault
+        ensures { result ≡ spec_refusal fault }
     {
-        match self {
-            Fault::Read => "fault read\n",
-            Fault::TooLong(Text::Spec) => "refused spec long\n",
-            Fault::TooLong(Text::History) => "refused history long\n",
-            Fault::Spec(_) => "refused spec\n",
-            Fault::History(_) => "refused history\n",
-            Fault::Write => "",
-            Fault::Memory => "fault memory\n",
+        match fault {
+            SpecFault::Memory => Fault::Memory,
+            fault => Fault::Spec(fault),
+        }
+    }
+
+    /// The refusal of a history's text. A missing row is named, and where there is no memory for its name the fault is that.
+    pub fn of_history(alloc: Global, spec: &Spec, fault: HistFault) -> Fault
+        requires { (row : ℕ) → fault ≡ HistFault.MissingRow row → row < length (rows_of (world_of spec.now)) }
+        ensures { (result ≡ history_refusal (world_of spec.now) fault) ⊎ (result ≡ Fault.Memory) }
+    {
+        match fault {
+            HistFault::Memory => Fault::Memory,
+            HistFault::MissingRow(row) => match row_name(alloc, spec, row) {
+                Ok(name) => Fault::Missing(name),
+                Err(_) => Fault::Memory,
+            },
+            fault => Fault::History(fault),
         }
     }
 
@@ -53,7 +71,11 @@ impl Fault {
     {
         match self {
             Fault::Read => Status::ReadFault,
-            Fault::TooLong(_) | Fault::Spec(_) | Fault::History(_) => Status::Refused,
+            Fault::TooLong(_)
+            | Fault::Spec(_)
+            | Fault::History(_)
+            | Fault::Missing(_)
+            | Fault::Unknown(_, _) => Status::Refused,
             Fault::Write => Status::WriteFault,
             Fault::Memory => Status::Memory,
         }

@@ -1,17 +1,17 @@
 //! Fetching files and reading them.
-ghost use Rattle.std.specs.Prelude.{◌≡◌, ℕ, ◌<◌, ◌≤◌, true, List, length, Option, Some, None, IfOk, IfErr, MatchResult};
-ghost use Rattle.trio_io.specs.Outside.{IsLater};
+ghost use Rattle.std.specs.Prelude.{◌≡◌, ◌≤◌, length, Some, IfOk, IfErr};
+ghost use Rattle.trio_io.specs.Outside.{OnlyReads, Holds};
 ghost use Rattle.trio_types.specs.Verdict.{world_of};
-ghost use Rattle.trio_types.specs.Cells.{IsTable};
-ghost use Rattle.trio_main.specs.Due.{IsSpecFile, IsHistoryFile, limit_of};
-ghost use Rattle.trio_main.specs.Loading.{FileFault, SpecLoadFault, HistoryLoadFault};
+ghost use Rattle.history_table.specs.Fitting.{IsGiven};
+ghost use Rattle.trio_main.specs.Load.{limit_of, FileFault, YieldsSpec, YieldsHistory, HasCause, Loads};
 
 use crate::fault::{Fault, Text};
-use history_check::table::{HistFault, Table, read_history};
+use history_table::{Given, read_history};
 use std::alloc::Global;
 use trio_base::Name;
+use trio_base::limits::{MOST_HISTORY_BYTES, MOST_SPEC_BYTES};
 use trio_io::{Shelf, ShelfFault};
-use trio_reader::{SpecFault, read_spec};
+use trio_reader::read_spec;
 use trio_types::Spec;
 
 /// The most bytes that a text of this kind may have.
@@ -19,8 +19,8 @@ fn limit(which: Text) -> u64
     ensures { result ≡ limit_of which }
 {
     match which {
-        Text::Spec => 262_144,
-        Text::History => 1_048_576,
+        Text::Spec => MOST_SPEC_BYTES,
+        Text::History => MOST_HISTORY_BYTES,
     }
 }
 
@@ -31,12 +31,10 @@ fn load_text<F: Shelf>(
     which: Text,
     name: &Name,
 ) -> Result<Vec<u8>, Fault>
-    ensures later { IsLater 1 (F.counts shelf.old) (F.counts shelf.new) }
-    ensures still { F.tells shelf.new ≡ F.tells shelf.old }
-    ensures files { (n : List ℕ) → F.file shelf.new n ≡ F.file shelf.old n }
+    ensures reads { OnlyReads 1 (F.seen shelf.old) (F.seen shelf.new) }
     ensures within { IfOk result (λ bytes. length bytes.items ≤ limit_of which) }
-    ensures told { IfOk result (λ bytes. F.tells shelf.old ≡ true → F.file shelf.old name.now ≡ Some bytes.items) }
-    ensures fault { IfErr result (FileFault (F.tells shelf.old) (F.file shelf.old name.now) (F.counts shelf.old) (F.counts shelf.new) which) }
+    ensures there { IfOk result (λ bytes. Holds (F.seen shelf.old) name.now (Some bytes.items)) }
+    ensures fault { IfErr result (HasCause (F.seen shelf.old) (F.seen shelf.new) (FileFault which (F.seen shelf.old) name.now)) }
 {
     let mut bytes = Vec::new(alloc);
     match shelf.fetch(name.as_str(), limit(which), &mut bytes) {
@@ -49,38 +47,30 @@ fn load_text<F: Shelf>(
 
 /// The specification in a file.
 pub fn load_spec<F: Shelf>(alloc: Global, shelf: &mut F, name: &Name) -> Result<Spec, Fault>
-    ensures later { IsLater 1 (F.counts shelf.old) (F.counts shelf.new) }
-    ensures still { F.tells shelf.new ≡ F.tells shelf.old }
-    ensures files { (n : List ℕ) → F.file shelf.new n ≡ F.file shelf.old n }
-    ensures ok { IfOk result (λ spec. IsSpecFile (F.tells shelf.old) (F.file shelf.old name.now) spec) }
-    ensures fault { IfErr result (SpecLoadFault (F.tells shelf.old) (F.file shelf.old name.now) (F.counts shelf.old) (F.counts shelf.new)) }
+    ensures reads { OnlyReads 1 (F.seen shelf.old) (F.seen shelf.new) }
+    ensures loads { Loads (F.seen shelf.old) (F.seen shelf.new) (YieldsSpec (F.seen shelf.old) name.now) result }
 {
     let bytes = load_text(alloc, shelf, Text::Spec, name)?;
     match read_spec(alloc, bytes.as_slice()) {
         Ok(spec) => Ok(spec),
-        Err(SpecFault::Refused) => Err(Fault::Spec(SpecFault::Refused)),
-        Err(SpecFault::Memory) => Err(Fault::Memory),
+        Err(fault) => Err(Fault::of_spec(fault)),
     }
 }
 
-/// The table of the complete history in a file.
+/// The given history in a file.
 pub fn load_history<F: Shelf>(
     alloc: Global,
     shelf: &mut F,
     spec: &Spec,
     name: &Name,
-) -> Result<Table, Fault>
-    ensures later { IsLater 1 (F.counts shelf.old) (F.counts shelf.new) }
-    ensures still { F.tells shelf.new ≡ F.tells shelf.old }
-    ensures files { (n : List ℕ) → F.file shelf.new n ≡ F.file shelf.old n }
-    ensures ok { IfOk result (λ table. IsHistoryFile (F.tells shelf.old) spec.now (F.file shelf.old name.now) table) }
-    ensures fits { IfOk result (λ table. IsTable (world_of spec.now) table) }
-    ensures fault { IfErr result (HistoryLoadFault (F.tells shelf.old) spec.now (F.file shelf.old name.now) (F.counts shelf.old) (F.counts shelf.new)) }
+) -> Result<Given, Fault>
+    ensures reads { OnlyReads 1 (F.seen shelf.old) (F.seen shelf.new) }
+    ensures loads { Loads (F.seen shelf.old) (F.seen shelf.new) (YieldsHistory (world_of spec.now) (F.seen shelf.old) name.now) result }
+    ensures fits { IfOk result (IsGiven (world_of spec.now)) }
 {
     let bytes = load_text(alloc, shelf, Text::History, name)?;
     match read_history(alloc, spec, bytes.as_slice()) {
-        Ok(table) => Ok(table),
-        Err(HistFault::Refused) => Err(Fault::History(HistFault::Refused)),
-        Err(HistFault::Memory) => Err(Fault::Memory),
+        Ok(given) => Ok(given),
+        Err(fault) => Err(Fault::of_history(alloc, spec, fault)),
     }
 }

@@ -1,10 +1,14 @@
 //! `trio`: whether a recorded history satisfies a specification in a metric temporal logic over finite time and finite domains.
 #![tactic(auto)]
 
+ghost use Rattle.std.specs.Prelude.{◌≡◌, IfErr};
+
 mod answer;
+mod check;
 mod command;
 mod fault;
 mod load;
+mod message;
 mod status;
 mod top;
 
@@ -20,7 +24,9 @@ use crate::status::Status;
 use crate::top::trio_plain;
 
 /// The words behind the program's name. `Err` is want of memory; words that are no text count as none.
-fn words_given<R: Env + AllocGlobal>(rt: &R) -> Result<Vec<String>, Status> {
+fn words_given<R: Env + AllocGlobal>(rt: &R) -> Result<Vec<String>, Status>
+    ensures { IfErr result (λ status. status ≡ Status.Memory) }
+{
     let mut words = Vec::new(rt.alloc());
     match env::args(rt) {
         Ok(given) => {

@@ -1,18 +1,37 @@
-//! Worked rows on the top call, over shelves and sinks in memory.
+//! Worked rows on the top call, over shelves and sinks in memory. A row's columns stand between `~`, and an answer is a status's number and
+//! what was written.
+ghost use Rattle.std.specs.Prelude.{◌≡◌, ◌⊎◌, ◌++◌, ℕ, List, None, Some};
+ghost use Rattle.trio_io.specs.Outside.{Rose};
+ghost use Rattle.trio_io.specs.MemoryShelf.{sure_seen};
+ghost use Rattle.trio_io.specs.MemorySink.{mem_written, mem_faults};
+ghost use Rattle.trio_main.specs.declared.command.Command.{Command};
+ghost use Rattle.trio_main.specs.declared.status.Status.{Status};
+ghost use Rattle.trio_main.specs.Command.{words_of, command_of};
+ghost use Rattle.trio_main.specs.Due.{Due};
+
+mod history_rows;
+mod made_texts;
+mod operator_rows;
+mod spec_rows;
+
 use super::*;
-use crate::status::Status;
+use crate::fault::{Fault, Text};
+use crate::message::say;
+use history_table::HistFault;
 use std::alloc::{AllocError, Global};
 use std::process::Abort;
 use std::test::Fail;
-use trio_io::{Counts, Files, MemShelf, MemSink, StillBell};
+use trio_base::Name;
+use trio_io::{Counts, Files, MemShelf, MemSink, SureShelf};
+use trio_reader::{SpecFault, Which};
 
 const IMPLIES_NEXT: &str = "time 3; item p : bool; axiom A : p -> Dist(p, 1);";
 
 const USAGE: &str =
-    "usage: trio check SPEC HIST | complete SPEC HIST [--workers=N] [--limit=N] [--seconds=N] [--save=NAME] | resume FRONTIER [the same] | cases SPEC HIST GOAL [--workers=N] | play SPEC HIST SCHEDULE | bench NUMBER [--workers=N]\n";
+    "2 usage: trio check SPEC HIST | complete SPEC HIST [--workers=N] [--limit=N] [--seconds=N] [--save=NAME] | resume FRONTIER [the same] | cases SPEC HIST GOAL [--workers=N] | play SPEC HIST SCHEDULE | bench NUMBER [--workers=N]\n";
 
 /// The words of one line, split at blanks; `_` stands for an empty word.
-fn words_of(alloc: Global, line: &str) -> Result<Vec<String>, AllocError> {
+fn words_in(alloc: Global, line: &str) -> Result<Vec<String>, AllocError> {
     let mut words = Vec::new(alloc);
     for word in line.split_whitespace() {
         words.push(String::from_str(alloc, if word == "_" { "" } else { word })?)?;
@@ -20,26 +39,39 @@ fn words_of(alloc: Global, line: &str) -> Result<Vec<String>, AllocError> {
     Ok(words)
 }
 
-/// The numbers as a list.
-fn counts_of(alloc: Global, numbers: &[u64]) -> Result<Counts, AllocError> {
-    Counts::from_slice(alloc, numbers)
+/// The first column of a row, and the columns behind it.
+fn cut(row: &str) -> (&str, &str) {
+    match row.split_once(" ~ ") {
+        Some(parts) => parts,
+        None => (row, ""),
+    }
 }
 
-/// How a call ends, and what was written behind `before `.
-fn ended(
-    rt: &impl Abort,
+/// A sink with ample room.
+fn ample(alloc: Global) -> Result<MemSink, AllocError> {
+    MemSink::new(alloc, 4096, 4096, Counts::new(alloc))
+}
+
+/// An answer as the rows have it.
+fn shown(alloc: Global, status: Status, out: &MemSink) -> Result<Vec<u8>, AllocError> {
+    let mut shown = format!(in alloc; "{} ", status.number())?.into_bytes();
+    shown.extend_from_slice(out.written())?;
+    Ok(shown)
+}
+
+/// The answer of a line of words.
+fn answered(
     alloc: Global,
     line: &str,
     files: Files,
     failing: Counts,
     mut out: MemSink,
-) -> Result<(Status, Vec<u8>), AllocError> {
-    let words = words_of(alloc, line)?;
+) -> Result<Vec<u8>, AllocError> {
+    let words = words_in(alloc, line)?;
     let mut shelf = MemShelf::new(alloc, files, failing)?;
     let mut bell = StillBell::new();
     let status = trio_plain(alloc, words.as_slice(), &mut shelf, &mut out, &mut bell);
-    assert!(rt; shelf.file("new").is_none());
-    Ok((status, Vec::from_slice(alloc, out.written())?))
+    shown(alloc, status, &out)
 }
 
 /// A shelf's files: `s` with a specification and `h` with a history.
@@ -51,58 +83,46 @@ fn two_files(alloc: Global, spec: &[u8], history: &[u8]) -> Result<Files, AllocE
 }
 
 /// The answer of `check s h` where nothing fails.
-fn checked(
-    rt: &impl Abort,
-    alloc: Global,
-    spec: &[u8],
-    history: &[u8],
-) -> Result<(Status, Vec<u8>), AllocError> {
+fn checked(alloc: Global, spec: &[u8], history: &[u8]) -> Result<Vec<u8>, AllocError> {
     let files = two_files(alloc, spec, history)?;
-    let out = MemSink::new(alloc, 4096, 4096, Counts::new(alloc))?;
-    ended(rt, alloc, "check s h", files, Counts::new(alloc), out)
+    answered(alloc, "check s h", files, Counts::new(alloc), ample(alloc)?)
+}
+
+/// Asserts the answer in the last column for the specification and the history in the others.
+fn check_row(rt: &(impl Abort + AllocGlobal), row: &str) -> Result<(), Fail> {
+    let (spec, rest) = cut(row);
+    let (history, want) = cut(rest);
+    let answer = checked(rt.alloc(), spec.as_bytes(), history.as_bytes())?;
+    assert_eq!(rt; answer.as_slice(), want.as_bytes(), "{row}");
+    Ok(())
+}
+
+/// Asserts the answer for a specification and an empty history.
+fn answer_is(rt: &(impl Abort + AllocGlobal), spec: &str, want: &str) -> Result<(), Fail> {
+    let row = format!(in rt.alloc(); "{spec} ~  ~ {want}\n")?;
+    check_row(rt, row.as_str())
 }
 
 #[test]
 fn verdicts_and_refusals(rt: HostRuntime) -> Result<(), Fail> {
     let rows = [
-        (IMPLIES_NEXT, "p: 0 0 0\n", Status::Done, "true\n"),
-        (IMPLIES_NEXT, "p: 0 1 1", Status::False, "false A 2\n"),
-        (IMPLIES_NEXT, "p: 1 0 1", Status::False, "false A 0\n"),
-        (
-            "time 3; item p : bool; axiom A : p -> Futr(p, 1);",
-            "p: 0 0 0",
-            Status::Refused,
-            "refused spec\n",
-        ),
-        (
-            IMPLIES_NEXT,
-            "p: 0 ? 1",
-            Status::Refused,
-            "refused history\n",
-        ),
-        (
-            "time 3; item p : bool; axiom A : q;",
-            "p: 0 ? 1",
-            Status::Refused,
-            "refused spec\n",
-        ),
-        (
-            "time 1; axiom A : false; axiom B : true;",
-            "",
-            Status::False,
-            "false A 0\n",
-        ),
-        (
-            "time 2; axiom A : true; axiom B at 1 : Dist(true, 1);",
-            "",
-            Status::False,
-            "false B 1\n",
-        ),
+        "time 3; item p : bool; axiom A : p -> Dist(p, 1); ~ p: 0 0 0\n ~ 0 true\n",
+        "time 3; item p : bool; axiom A : p -> Dist(p, 1); ~ p: 0 1 1 ~ 1 false A 2\n",
+        "time 3; item p : bool; axiom A : p -> Dist(p, 1); ~ p: 1 0 1 ~ 1 false A 0\n",
+        "time 3; item p : bool; axiom A : p -> Dist(p, 1); ~ p: 0 ? 1 ~ 4 unknown p 1\n",
+        "time 3; item p : bool; axiom A : p -> Futr(p, 1); ~ p: 0 0 0 ~ 0 true\n",
+        "time 3; item p : bool; axiom A : q; ~ p: 0 ? 1 ~ 4 refused spec unknown 11\n",
+        "time 1; axiom A : false; axiom B : true; ~  ~ 1 false A 0\n",
+        "time 2; axiom A : true; axiom B at 1 : Dist(true, 1); ~  ~ 1 false B 1\n",
+        "time 3;\nitem p : bool;\naxiom A : p @ q; ~  ~ 4 refused spec lex 35\n",
+        "time 3; item p bool; ~  ~ 4 refused spec syntax 5\n",
+        "time 1; item p : bool; item p : bool; ~  ~ 4 refused spec twice 9\n",
+        "time 1; item p : bool; axiom A : 1; ~  ~ 4 refused spec kind 11\n",
+        "time 0; ~  ~ 4 refused spec range 1\n",
+        "time 205; item a : bool; item b : bool; item c : bool; item d : bool; item e : bool; ~  ~ 4 refused spec limit cells 1025\n",
     ];
-    for (spec, history, status, text) in rows {
-        let answer = checked(&rt, rt.alloc(), spec.as_bytes(), history.as_bytes())?;
-        assert_eq!(rt; answer.0, status, "{spec}");
-        assert_eq!(rt; answer.1.as_slice(), text.as_bytes(), "{spec}");
+    for row in rows {
+        check_row(&rt, row)?;
     }
     Ok(())
 }
@@ -130,136 +150,83 @@ fn words_that_are_no_command(rt: HostRuntime) -> Result<(), Fail> {
     ];
     for line in lines {
         let files = two_files(alloc, IMPLIES_NEXT.as_bytes(), b"p: 0 0 0")?;
-        let out = MemSink::new(alloc, 4096, 4096, Counts::new(alloc))?;
-        let answer = ended(&rt, alloc, line, files, counts_of(alloc, &[1, 2, 3])?, out)?;
-        assert_eq!(rt; answer.0, Status::Usage, "{line}");
-        assert_eq!(rt; answer.1.as_slice(), USAGE.as_bytes(), "{line}");
+        let failing = Counts::from_slice(alloc, &[1, 2, 3])?;
+        let answer = answered(alloc, line, files, failing, ample(alloc)?)?;
+        assert_eq!(rt; answer.as_slice(), USAGE.as_bytes(), "{line}");
     }
     Ok(())
 }
-
-/// Words, the numbers of the calls that fail, whether the files `s` and `h` are there, and the answer.
-type Fetch<'a> = (&'a str, &'a [u64], bool, bool, Status, &'a str);
 
 #[test]
 fn fetches_that_fail(rt: HostRuntime) -> Result<(), Fail> {
     let alloc = rt.alloc();
-    let rows: [Fetch<'_>; 9] = [
-        ("check s h", &[], true, true, Status::Done, "true\n"),
-        (
-            "check s h",
-            &[1],
-            true,
-            true,
-            Status::ReadFault,
-            "fault read\n",
-        ),
-        (
-            "check s h",
-            &[2],
-            true,
-            true,
-            Status::ReadFault,
-            "fault read\n",
-        ),
-        ("check s h", &[3], true, true, Status::Done, "true\n"),
-        (
-            "check s h",
-            &[],
-            false,
-            true,
-            Status::ReadFault,
-            "fault read\n",
-        ),
-        (
-            "check s h",
-            &[],
-            true,
-            false,
-            Status::ReadFault,
-            "fault read\n",
-        ),
-        (
-            "check h h",
-            &[2],
-            true,
-            true,
-            Status::Refused,
-            "refused spec\n",
-        ),
-        (
-            "check s s",
-            &[],
-            true,
-            true,
-            Status::Refused,
-            "refused history\n",
-        ),
-        (
-            "check - -x",
-            &[],
-            true,
-            true,
-            Status::ReadFault,
-            "fault read\n",
-        ),
+    let rows = [
+        (0, "check s h ~ s h ~ 0 true\n"),
+        (1, "check s h ~ s h ~ 5 fault read\n"),
+        (2, "check s h ~ s h ~ 5 fault read\n"),
+        (3, "check s h ~ s h ~ 0 true\n"),
+        (0, "check s h ~ h ~ 5 fault read\n"),
+        (0, "check s h ~ s ~ 5 fault read\n"),
+        (2, "check h h ~ s h ~ 4 refused spec syntax 0\n"),
+        (0, "check s s ~ s h ~ 4 refused history syntax 1\n"),
+        (0, "check - -x ~ s h ~ 5 fault read\n"),
     ];
-    for (line, failing, has_spec, has_history, status, text) in rows {
+    for (failing, row) in rows {
+        let (line, rest) = cut(row);
+        let (names, want) = cut(rest);
         let mut files = Files::new(alloc);
-        if has_spec {
-            files.push("s", IMPLIES_NEXT.as_bytes())?;
+        for name in names.split_whitespace() {
+            let text = if name == "s" {
+                IMPLIES_NEXT
+            } else {
+                "p: 0 0 0"
+            };
+            files.push(name, text.as_bytes())?;
         }
-        if has_history {
-            files.push("h", b"p: 0 0 0")?;
-        }
-        let out = MemSink::new(alloc, 4096, 4096, Counts::new(alloc))?;
-        let answer = ended(&rt, alloc, line, files, counts_of(alloc, failing)?, out)?;
-        assert_eq!(rt; answer.0, status, "{line}");
-        assert_eq!(rt; answer.1.as_slice(), text.as_bytes(), "{line}");
+        let failing = Counts::from_slice(alloc, &[failing])?;
+        let answer = answered(alloc, line, files, failing, ample(alloc)?)?;
+        assert_eq!(rt; answer.as_slice(), want.as_bytes(), "{row}");
     }
     Ok(())
 }
 
-/// The room, the most bytes a write, the number of the write that fails, the history, and the answer.
-type Write<'a> = (u64, u64, u64, &'a [u8], Status, &'a str);
-
 #[test]
 fn writes_that_fail(rt: HostRuntime) -> Result<(), Fail> {
     let alloc = rt.alloc();
-    let rows: [Write<'_>; 14] = [
-        (4096, 1, 0, b"p: 0 0 0", Status::Done, "true\n"),
-        (4096, 1, 1, b"p: 0 0 0", Status::WriteFault, ""),
-        (4096, 1, 2, b"p: 0 0 0", Status::WriteFault, "t"),
-        (4096, 1, 5, b"p: 0 0 0", Status::WriteFault, "true"),
-        (4096, 1, 6, b"p: 0 0 0", Status::Done, "true\n"),
-        (4096, 2, 2, b"p: 0 1 1", Status::WriteFault, "fa"),
-        (4096, 2, 5, b"p: 0 1 1", Status::WriteFault, "false A "),
-        (4096, 1000, 1, b"p: 0 1 1", Status::WriteFault, ""),
-        (4096, 1000, 2, b"p: 0 1 1", Status::False, "false A 2\n"),
-        (4096, 2, 3, b"p: 0 1", Status::WriteFault, "refu"),
-        (0, 1000, 0, b"p: 0 0 0", Status::WriteFault, ""),
-        (3, 1000, 0, b"p: 0 0 0", Status::WriteFault, "tru"),
-        (5, 1000, 0, b"p: 0 0 0", Status::Done, "true\n"),
-        (9, 2, 0, b"p: 0 1 1", Status::WriteFault, "false A 2"),
+    // The room, the most bytes a write, the number of the write that fails, the history, and the answer.
+    let rows = [
+        (4096, 1, 0, "p: 0 0 0 ~ 0 true\n"),
+        (4096, 1, 1, "p: 0 0 0 ~ 6 "),
+        (4096, 1, 2, "p: 0 0 0 ~ 6 t"),
+        (4096, 1, 5, "p: 0 0 0 ~ 6 true"),
+        (4096, 1, 6, "p: 0 0 0 ~ 0 true\n"),
+        (4096, 2, 2, "p: 0 1 1 ~ 6 fa"),
+        (4096, 2, 5, "p: 0 1 1 ~ 6 false A "),
+        (4096, 1000, 1, "p: 0 1 1 ~ 6 "),
+        (4096, 1000, 2, "p: 0 1 1 ~ 1 false A 2\n"),
+        (4096, 2, 3, "p: 0 1 ~ 6 refu"),
+        (4096, 1000, 2, "p: 0 1 ~ 6 refused history length "),
+        (4096, 1000, 4, "p: 0 1 ~ 4 refused history length 1\n"),
+        (0, 1000, 0, "p: 0 0 0 ~ 6 "),
+        (3, 1000, 0, "p: 0 0 0 ~ 6 tru"),
+        (5, 1000, 0, "p: 0 0 0 ~ 0 true\n"),
+        (9, 2, 0, "p: 0 1 1 ~ 6 false A 2"),
     ];
-    for (room, most, failing, history, status, text) in rows {
-        let files = two_files(alloc, IMPLIES_NEXT.as_bytes(), history)?;
+    for (room, most, failing, row) in rows {
+        let (history, want) = cut(row);
+        let files = two_files(alloc, IMPLIES_NEXT.as_bytes(), history.as_bytes())?;
         assert!(rt; 0 < most);
-        let out = MemSink::new(alloc, room, most, counts_of(alloc, &[failing])?)?;
-        let answer = ended(&rt, alloc, "check s h", files, Counts::new(alloc), out)?;
-        assert_eq!(rt; answer.0, status, "{room} {most} {failing}");
-        assert_eq!(rt;
-            answer.1.as_slice(),
-            text.as_bytes(),
-            "{room} {most} {failing}"
-        );
+        let failing = Counts::from_slice(alloc, &[failing])?;
+        let out = MemSink::new(alloc, room, most, failing)?;
+        let answer = answered(alloc, "check s h", files, Counts::new(alloc), out)?;
+        assert_eq!(rt; answer.as_slice(), want.as_bytes(), "{room} {most} {row}");
     }
     Ok(())
 }
 
 /// The text, and blanks behind it up to this many bytes.
-fn padded(alloc: Global, text: &[u8], length: usize) -> Result<Vec<u8>, AllocError> {
-    let mut bytes = Vec::from_slice(alloc, text)?;
+fn padded(alloc: Global, text: &str, length: usize) -> Result<Vec<u8>, AllocError> {
+    let mut bytes = Vec::from_slice(alloc, text.as_bytes())?;
     for _ in text.len()..length {
         bytes.push(b' ')?;
     }
@@ -269,77 +236,41 @@ fn padded(alloc: Global, text: &[u8], length: usize) -> Result<Vec<u8>, AllocErr
 #[test]
 fn long_and_empty_files(rt: HostRuntime) -> Result<(), Fail> {
     let alloc = rt.alloc();
+    // The lengths of the two files, the specification, the history, and the answer.
+    let spec = "time 3; item p : bool; axiom A : p -> Dist(p, 1);";
     let rows = [
-        (
-            IMPLIES_NEXT,
-            262_144,
-            "p: 0 0 0",
-            1_048_576,
-            Status::Done,
-            "true\n",
-        ),
-        (
-            IMPLIES_NEXT,
-            262_145,
-            "p: 0 0 0",
-            9,
-            Status::Refused,
-            "refused spec long\n",
-        ),
-        (
-            IMPLIES_NEXT,
-            99,
-            "p: 0 0 0",
-            1_048_577,
-            Status::Refused,
-            "refused history long\n",
-        ),
-        (
-            "time 0;",
-            99,
-            "p: 0 0 0",
-            1_048_577,
-            Status::Refused,
-            "refused spec\n",
-        ),
-        ("", 0, "p: 0 0 0", 9, Status::Refused, "refused spec\n"),
-        (
-            IMPLIES_NEXT,
-            99,
-            "",
-            0,
-            Status::Refused,
-            "refused history\n",
-        ),
-        ("time 1;", 7, "", 0, Status::Done, "true\n"),
+        (262_144, 1_048_576, "p: 0 0 0 ~ 0 true\n"),
+        (262_145, 9, "p: 0 0 0 ~ 4 refused spec long\n"),
+        (99, 1_048_577, "p: 0 0 0 ~ 4 refused history long\n"),
+        (99, 0, " ~ 4 refused history missing p\n"),
     ];
-    for (spec, spec_length, history, history_length, status, text) in rows {
-        let spec = padded(alloc, spec.as_bytes(), spec_length)?;
-        let history = padded(alloc, history.as_bytes(), history_length)?;
-        let answer = checked(&rt, alloc, spec.as_slice(), history.as_slice())?;
-        assert_eq!(rt; answer.0, status, "{spec_length} {history_length}");
-        assert_eq!(rt;
-            answer.1.as_slice(),
-            text.as_bytes(),
-            "{spec_length} {history_length}"
-        );
+    for (spec_length, history_length, row) in rows {
+        let (history, want) = cut(row);
+        let spec = padded(alloc, spec, spec_length)?;
+        let history = padded(alloc, history, history_length)?;
+        let answer = checked(alloc, spec.as_slice(), history.as_slice())?;
+        assert_eq!(rt; answer.as_slice(), want.as_bytes(), "{row}");
     }
-    Ok(())
+    let history = padded(alloc, "p: 0 0 0", 1_048_577)?;
+    let answer = checked(alloc, b"time 0;", history.as_slice())?;
+    assert_eq!(rt; answer.as_slice(), b"4 refused spec range 1\n".as_slice());
+    check_row(&rt, " ~ p: 0 0 0 ~ 4 refused spec syntax 0\n")?;
+    check_row(&rt, "time 1; ~  ~ 0 true\n")
 }
 
 /// For runs in which one allocation fails: each answer is the row's or want of memory. An allocation of the test's own that fails ends it.
 #[test]
 fn memory_may_run_out(rt: HostRuntime) {
     let rows = [
-        ("p: 0 0 0", Status::Done, "true\n"),
-        ("p: 0 ? 1", Status::Refused, "refused history\n"),
+        "p: 0 0 0 ~ 0 true\n",
+        "p: 0 ? 1 ~ 4 unknown p 1\n",
+        " ~ 4 refused history missing p\n",
     ];
-    for (history, status, text) in rows {
-        if let Ok(answer) = checked(&rt, rt.alloc(), IMPLIES_NEXT.as_bytes(), history.as_bytes()) {
-            let is_row = answer.0 == status && answer.1.as_slice() == text.as_bytes();
-            let is_memory = answer.0 == Status::Memory
-                && answer.1.as_slice() == "fault memory\n".as_bytes();
-            assert!(rt; is_row || is_memory, "{history}");
+    for row in rows {
+        let (history, want) = cut(row);
+        if let Ok(answer) = checked(rt.alloc(), IMPLIES_NEXT.as_bytes(), history.as_bytes()) {
+            let is_memory = answer.as_slice() == b"7 fault memory\n".as_slice();
+            assert!(rt; answer.as_slice() == want.as_bytes() || is_memory, "{row}");
         }
     }
 }
@@ -347,141 +278,179 @@ fn memory_may_run_out(rt: HostRuntime) {
 #[test]
 fn truth_of_each_form(rt: HostRuntime) -> Result<(), Fail> {
     let rows = [
-        ("axiom A : p | !p;", "p: 0 1 1", Status::Done, "true\n"),
-        (
-            "axiom A : true -> [p];",
-            "p: 1 1 0",
-            Status::False,
-            "false A 2\n",
-        ),
-        (
-            "axiom A : p & p | false;",
-            "p: 1 0 1",
-            Status::False,
-            "false A 1\n",
-        ),
-        (
-            "axiom A : Dist(p, -1) -> p;",
-            "p: 0 1 0",
-            Status::False,
-            "false A 2\n",
-        ),
-        (
-            "axiom A : Dist(p, 1) | Dist(true, -2);",
-            "p: 0 1 1",
-            Status::Done,
-            "true\n",
-        ),
-        (
-            "axiom A : Dist(!p, 1);",
-            "p: 1 0 0",
-            Status::False,
-            "false A 2\n",
-        ),
-        ("axiom A : !Dist(p, 1);", "p: 1 0 0", Status::Done, "true\n"),
-        (
-            "axiom A : Dist(Dist(p, 1), -1) -> p;",
-            "p: 1 0 1",
-            Status::Done,
-            "true\n",
-        ),
-        (
-            "axiom A at 0 : Dist(true, 2) & !Dist(true, 3);",
-            "p: 0 0 0",
-            Status::Done,
-            "true\n",
-        ),
-        (
-            "axiom A at 2 : Dist(true, -3);",
-            "p: 0 0 0",
-            Status::False,
-            "false A 2\n",
-        ),
-        (
-            "axiom A : Dist(p, -0) -> Dist(p, 0);",
-            "p: 0 1 0",
-            Status::Done,
-            "true\n",
-        ),
-        (
-            "axiom A : Dist(true, 1000000);",
-            "p: 1 1 1",
-            Status::False,
-            "false A 0\n",
-        ),
-        (
-            "axiom A : !Dist(true, -1000000);",
-            "p: 1 1 1",
-            Status::Done,
-            "true\n",
-        ),
-        (
-            "axiom A at 1 : p; axiom B : p;",
-            "p: 0 1 1",
-            Status::False,
-            "false B 0\n",
-        ),
-        (
-            "axiom A : p; axiom B : false;",
-            "p: 1 1 0",
-            Status::False,
-            "false A 2\n",
-        ),
-        ("", "p: 0 1 0", Status::Done, "true\n"),
+        "axiom A : p | !p; ~ p: 0 1 1 ~ 0 true\n",
+        "axiom A : true -> [p]; ~ p: 1 1 0 ~ 1 false A 2\n",
+        "axiom A : p & p | false; ~ p: 1 0 1 ~ 1 false A 1\n",
+        "axiom A : Dist(p, -1) -> p; ~ p: 0 1 0 ~ 1 false A 2\n",
+        "axiom A : Dist(p, 1) | Dist(true, -2); ~ p: 0 1 1 ~ 0 true\n",
+        "axiom A : Dist(!p, 1); ~ p: 1 0 0 ~ 1 false A 2\n",
+        "axiom A : !Dist(p, 1); ~ p: 1 0 0 ~ 0 true\n",
+        "axiom A : Dist(Dist(p, 1), -1) -> p; ~ p: 1 0 1 ~ 0 true\n",
+        "axiom A at 0 : Dist(true, 2) & !Dist(true, 3); ~ p: 0 0 0 ~ 0 true\n",
+        "axiom A at 2 : Dist(true, -3); ~ p: 0 0 0 ~ 1 false A 2\n",
+        "axiom A : Dist(p, -0) -> Dist(p, 0); ~ p: 0 1 0 ~ 0 true\n",
+        "axiom A : Dist(true, 1000000); ~ p: 1 1 1 ~ 1 false A 0\n",
+        "axiom A : !Dist(true, -1000000); ~ p: 1 1 1 ~ 0 true\n",
+        "axiom A at 1 : p; axiom B : p; ~ p: 0 1 1 ~ 1 false B 0\n",
+        "axiom A : p; axiom B : false; ~ p: 1 1 0 ~ 1 false A 2\n",
+        " ~ p: 0 1 0 ~ 0 true\n",
     ];
-    let alloc = rt.alloc();
-    for (axioms, history, status, text) in rows {
-        let spec = format!(in alloc; "time 3; item p : bool; {axioms}")?;
-        let answer = checked(&rt, alloc, spec.as_bytes(), history.as_bytes())?;
-        assert_eq!(rt; answer.0, status, "{axioms}");
-        assert_eq!(rt; answer.1.as_slice(), text.as_bytes(), "{axioms}");
+    for row in rows {
+        let row = format!(in rt.alloc(); "time 3; item p : bool; {row}")?;
+        check_row(&rt, row.as_str())?;
     }
     Ok(())
 }
 
 #[test]
 fn histories_in_every_form(rt: HostRuntime) -> Result<(), Fail> {
-    let spec = "time 2; item p : bool; input q : bool; axiom A : p -> q;";
-    let accepted = [
-        ("p: 0 1\nq: 1 1", Status::Done),
-        ("p:0 1\nq:0 0\n", Status::False),
-        ("q: true true // all\n\n p\t:\t0 01\r\n", Status::Done),
-        ("p: 000 true\nq: - 0 -0", Status::False),
-        ("// none\np: false 1//1\nq: -00 1", Status::Done),
+    let rows = [
+        "p: 0 1\nq: 1 1 ~ 0 true\n",
+        "p:0 1\nq:0 0\n ~ 1 false A 1\n",
+        "q: true true // all\n\n p\t:\t0 01\r\n ~ 0 true\n",
+        "p: 000 true\nq: - 0 -0 ~ 1 false A 1\n",
+        "// none\np: false 1//1\nq: -00 1 ~ 0 true\n",
+        " ~ 4 refused history missing p\n",
+        "// p: 0 1 ~ 4 refused history missing p\n",
+        "p: 0 1 ~ 4 refused history missing q\n",
+        "p: 0 1\nq: 1 1\np: 0 1 ~ 4 refused history twicerow 3\n",
+        "p: 0 1\nq: 1 ~ 4 refused history length 2\n",
+        "p: 0 1\nq: 1 1 1 ~ 4 refused history length 2\n",
+        "p: 01\nq: 1 1 ~ 4 refused history length 1\n",
+        "p: 0 2\nq: 1 1 ~ 4 refused history value 1 2\n",
+        "p: 0 -1\nq: 1 1 ~ 4 refused history value 1 2\n",
+        "p: 0 x\nq: 1 1 ~ 4 refused history value 1 2\n",
+        "p: 0 ?\nq: 1 1 ~ 4 unknown p 1\n",
+        "p: 0 1\nq: ? ? ~ 4 unknown q 0\n",
+        "r: 0 1\np: 0 1\nq: 1 1 ~ 4 refused history unknownrow 1\n",
+        "A: 0 1\np: 0 1\nq: 1 1 ~ 4 refused history unknownrow 1\n",
+        "p 0 1\nq: 1 1 ~ 4 refused history syntax 1\n",
+        "p: 0 1 q: 1 1 ~ 4 refused history syntax 1\n",
+        "p(): 0 1\nq: 1 1 ~ 4 refused history syntax 1\n",
+        "p: 0\n1\nq: 1 1 ~ 4 refused history length 1\n",
+        "p: 0 -\n1\nq: 1 1 ~ 4 refused history syntax 1\n",
+        "p: 0 1\nq: 1 1\n/ ~ 4 refused history lex 14\n",
     ];
-    for (history, status) in accepted {
-        let answer = checked(&rt, rt.alloc(), spec.as_bytes(), history.as_bytes())?;
-        assert_eq!(rt; answer.0, status, "{history}");
+    for row in rows {
+        let row = format!(in rt.alloc();
+            "time 2; item p : bool; input q : bool; axiom A : p -> q; ~ {row}"
+        )?;
+        check_row(&rt, row.as_str())?;
     }
-    let refused: [&[u8]; 20] = [
-        b"",
-        b"// p: 0 1",
-        b"p: 0 1",
-        b"p: 0 1\nq: 1 1\np: 0 1",
-        b"p: 0 1\nq: 1",
-        b"p: 0 1\nq: 1 1 1",
-        b"p: 01\nq: 1 1",
-        b"p: 0 2\nq: 1 1",
-        b"p: 0 -1\nq: 1 1",
-        b"p: 0 x\nq: 1 1",
-        b"p: 0 ?\nq: 1 1",
-        b"r: 0 1\np: 0 1\nq: 1 1",
-        b"A: 0 1\np: 0 1\nq: 1 1",
-        b"p 0 1\nq: 1 1",
-        b"p: 0 1 q: 1 1",
-        b"p(): 0 1\nq: 1 1",
-        b"p: 0\n1\nq: 1 1",
-        b"p: 0 -\n1\nq: 1 1",
-        b"p: 0 1\nq: 1 1\n\xff",
-        b"p: 0 1\nq: 1 1\n/",
-    ];
-    for history in refused {
-        let answer = checked(&rt, rt.alloc(), spec.as_bytes(), history)?;
-        assert_eq!(rt; answer.0, Status::Refused, "{history:?}");
+    let answer = checked(rt.alloc(), b"time 1;", b"\n\xff")?;
+    assert_eq!(rt; answer.as_slice(), b"4 refused history lex 1\n".as_slice());
+    Ok(())
+}
+
+#[test]
+fn statuses_have_their_numbers(rt: HostRuntime) {
+    assert_eq!(rt; Status::Done.number(), 0);
+    assert_eq!(rt; Status::False.number(), 1);
+    assert_eq!(rt; Status::Usage.number(), 2);
+    assert_eq!(rt; Status::Refused.number(), 4);
+    assert_eq!(rt; Status::ReadFault.number(), 5);
+    assert_eq!(rt; Status::WriteFault.number(), 6);
+    assert_eq!(rt; Status::Memory.number(), 7);
+}
+
+/// Asserts what is said of a fault.
+fn says(rt: &(impl Abort + AllocGlobal), fault: Fault, want: &str) -> Result<(), Fail> {
+    let alloc = rt.alloc();
+    let mut out = ample(alloc)?;
+    let status = say(&mut out, &fault);
+    assert_eq!(rt; shown(alloc, status, &out)?.as_slice(), want.as_bytes());
+    Ok(())
+}
+
+#[test]
+fn faults_have_their_messages(rt: HostRuntime) -> Result<(), Fail> {
+    let p = Name::new(rt.alloc(), "p")?;
+    let q = Name::new(rt.alloc(), "q(0,red)")?;
+    says(&rt, Fault::Read, "5 fault read\n")?;
+    says(&rt, Fault::TooLong(Text::Spec), "4 refused spec long\n")?;
+    says(
+        &rt,
+        Fault::TooLong(Text::History),
+        "4 refused history long\n",
+    )?;
+    says(&rt, Fault::Missing(p), "4 refused history missing p\n")?;
+    says(&rt, Fault::Unknown(q, 255), "4 unknown q(0,red) 255\n")?;
+    says(&rt, Fault::Write, "6 ")?;
+    says(&rt, Fault::Memory, "7 fault memory\n")
+}
+
+/// Asserts the words on a refused specification.
+fn spec_says(rt: &(impl Abort + AllocGlobal), fault: SpecFault, words: &str) -> Result<(), Fail> {
+    let want = format!(in rt.alloc(); "4 refused spec {words}\n")?;
+    says(rt, Fault::Spec(fault), want.as_str())
+}
+
+#[test]
+fn refused_specifications_have_their_messages(rt: HostRuntime) -> Result<(), Fail> {
+    spec_says(&rt, SpecFault::Lex(0), "lex 0")?;
+    spec_says(&rt, SpecFault::Deep(106), "deep 106")?;
+    spec_says(&rt, SpecFault::Syntax(5), "syntax 5")?;
+    spec_says(&rt, SpecFault::Unknown(11), "unknown 11")?;
+    spec_says(&rt, SpecFault::Twice(9), "twice 9")?;
+    spec_says(&rt, SpecFault::Kind(12), "kind 12")?;
+    spec_says(&rt, SpecFault::Range(8), "range 8")?;
+    spec_says(&rt, SpecFault::Limit(Which::Items, 257), "limit items 257")?;
+    spec_says(&rt, SpecFault::Limit(Which::Cells, 9), "limit cells 9")?;
+    spec_says(&rt, SpecFault::Limit(Which::Sizes, 9), "limit sizes 9")?;
+    spec_says(&rt, SpecFault::Limit(Which::Bound, 9), "limit bound 9")?;
+    let most = u64::MAX;
+    let words = "limit instances 18446744073709551615";
+    spec_says(&rt, SpecFault::Limit(Which::Instances, most), words)?;
+    spec_says(&rt, SpecFault::Limit(Which::Nest, 101), "limit nest 101")
+}
+
+/// Asserts the words on a refused history.
+fn history_says(
+    rt: &(impl Abort + AllocGlobal),
+    fault: HistFault,
+    words: &str,
+) -> Result<(), Fail> {
+    let want = format!(in rt.alloc(); "4 refused history {words}\n")?;
+    says(rt, Fault::History(fault), want.as_str())
+}
+
+#[test]
+fn refused_histories_have_their_messages(rt: HostRuntime) -> Result<(), Fail> {
+    history_says(&rt, HistFault::Lex(14), "lex 14")?;
+    history_says(&rt, HistFault::Syntax(1), "syntax 1")?;
+    history_says(&rt, HistFault::UnknownRow(2), "unknownrow 2")?;
+    history_says(&rt, HistFault::TwiceRow(3), "twicerow 3")?;
+    history_says(&rt, HistFault::Length(4), "length 4")?;
+    history_says(&rt, HistFault::Value(1, 2), "value 1 2")
+}
+
+/// Over a shelf that never fails and a sink in memory: the answer due, or want of memory, and every file as it was.
+fn sure_status(alloc: Global, words: &[String], shelf: &mut SureShelf, out: &mut MemSink) -> Status
+    ensures due { (reads : ℕ) (s : Status) (text : List ℕ) → Due (command_of (words_of words.now)) (sure_seen shelf.old) reads s text
+        → (Rose (mem_faults out.old) (mem_faults out.new) → ⊥)
+        → ((result ≡ s) × (mem_written out.new ≡ mem_written out.old ++ text)) ⊎ (result ≡ Status.Memory) }
+    ensures files { (s h name : List ℕ) → command_of (words_of words.now) ≡ Some (Command.Check s h)
+        → (sure_seen shelf.new).file name ≡ (sure_seen shelf.old).file name }
+{
+    let mut bell = StillBell::new();
+    trio_plain(alloc, words, shelf, out, &mut bell)
+}
+
+#[test]
+fn what_is_due_is_given(rt: HostRuntime) -> Result<(), Fail> {
+    let alloc = rt.alloc();
+    let rows = ["p: 0 0 0 ~ 0 true\n", "p: 0 1 1 ~ 1 false A 2\n"];
+    for row in rows {
+        let (history, want) = cut(row);
+        let files = two_files(alloc, IMPLIES_NEXT.as_bytes(), history.as_bytes())?;
+        let mut shelf = SureShelf::new(alloc, files)?;
+        let mut out = ample(alloc)?;
+        let words = words_in(alloc, "check s h")?;
+        let status = sure_status(alloc, words.as_slice(), &mut shelf, &mut out);
         assert_eq!(rt;
-            answer.1.as_slice(),
-            b"refused history\n".as_slice(),
-            "{history:?}"
+            shown(alloc, status, &out)?.as_slice(),
+            want.as_bytes(),
+            "{row}"
         );
     }
     Ok(())

@@ -24,19 +24,19 @@ use Rattle.history_check.proofs.terms.+value.Goals as goal
 
 pub read-get-declared-requires : goal.read-get-declared-requires
 read-get-declared-requires t c =
-    let r = read_item (world_of c.args.spec.now) c.args.item c.args.args.now c.args.values.now c.requires.term_fits in
-    slice_get_within c.args.spec.now.items c.args.item r.0 r.1
+    let r = read_item (world_of c.args.under.spec.now) c.args.item c.args.args.now c.args.under.values.now c.requires.term_fits in
+    slice_get_within c.args.under.spec.now.items c.args.item r.0 r.1
 
 pub read-loop-place-init : goal.read-loop-place-init
 read-loop-place-init t c = record { told = sym (map_id _); four = refl }
 
 pub read-value_of-requires : goal.read-value_of-requires
 read-value_of-requires t c =
-    let spec = c.args.spec.now in
+    let spec = c.args.under.spec.now in
     let w = world_of spec in
     let args = c.args.args.now in
-    let e = c.args.values.now in
-    let table = c.args.table.now in
+    let e = c.args.under.values.now in
+    let table = c.args.under.table.now in
     let i = c.args.instant in
     let declared = c.get-declared.result.now in
     let fits = c.requires.term_fits in
@@ -47,11 +47,11 @@ read-value_of-requires t c =
 
 pub read-returns-in_default-clause-is : goal.read-returns-in_default-clause-is
 read-returns-in_default-clause-is t c =
-    let spec = c.args.spec.now in
+    let spec = c.args.under.spec.now in
     let w = world_of spec in
     let args = c.args.args.now in
-    let e = c.args.values.now in
-    let table = c.args.table.now in
+    let e = c.args.under.values.now in
+    let table = c.args.under.table.now in
     let i = c.args.instant in
     let declared = c.get-declared.result.now in
     let fits = c.requires.term_fits in
@@ -66,11 +66,11 @@ read-returns-in_default-clause-is t c =
 
 pub read-bounds-domains-place : goal.read-bounds-domains-place
 read-bounds-domains-place t c =
-    let spec = c.args.spec.now in
+    let spec = c.args.under.spec.now in
     let w = world_of spec in
     let args = c.args.args.now in
-    let e = c.args.values.now in
-    let table = c.args.table.now in
+    let e = c.args.under.values.now in
+    let table = c.args.under.table.now in
     let i = c.args.instant in
     let declared = c.get-declared.result.now in
     let fits = c.requires.term_fits in
@@ -79,11 +79,11 @@ read-bounds-domains-place t c =
 
 pub read-index_of-requires-clause-domain_in : goal.read-index_of-requires-clause-domain_in
 read-index_of-requires-clause-domain_in t c =
-    let spec = c.args.spec.now in
+    let spec = c.args.under.spec.now in
     let w = world_of spec in
     let args = c.args.args.now in
-    let e = c.args.values.now in
-    let table = c.args.table.now in
+    let e = c.args.under.values.now in
+    let table = c.args.under.table.now in
     let i = c.args.instant in
     let declared = c.get-declared.result.now in
     let fits = c.requires.term_fits in
@@ -94,11 +94,11 @@ read-index_of-requires-clause-domain_in t c =
 
 pub read-index_of-requires-clause-not_far_back : goal.read-index_of-requires-clause-not_far_back
 read-index_of-requires-clause-not_far_back t c =
-    let spec = c.args.spec.now in
+    let spec = c.args.under.spec.now in
     let w = world_of spec in
     let args = c.args.args.now in
-    let e = c.args.values.now in
-    let table = c.args.table.now in
+    let e = c.args.under.values.now in
+    let table = c.args.under.table.now in
     let i = c.args.instant in
     let declared = c.get-declared.result.now in
     let fits = c.requires.term_fits in
@@ -113,11 +113,11 @@ read-index_of-requires-clause-not_far_back t c =
 
 pub read-index_of-requires-clause-not_far_on : goal.read-index_of-requires-clause-not_far_on
 read-index_of-requires-clause-not_far_on t c =
-    let spec = c.args.spec.now in
+    let spec = c.args.under.spec.now in
     let w = world_of spec in
     let args = c.args.args.now in
-    let e = c.args.values.now in
-    let table = c.args.table.now in
+    let e = c.args.under.values.now in
+    let table = c.args.under.table.now in
     let i = c.args.instant in
     let declared = c.get-declared.result.now in
     let fits = c.requires.term_fits in
@@ -132,11 +132,11 @@ read-index_of-requires-clause-not_far_on t c =
 
 pub read-returns-in_default-index_of-clause-is : goal.read-returns-in_default-index_of-clause-is
 read-returns-in_default-index_of-clause-is t c =
-    let spec = c.args.spec.now in
+    let spec = c.args.under.spec.now in
     let w = world_of spec in
     let args = c.args.args.now in
-    let e = c.args.values.now in
-    let table = c.args.table.now in
+    let e = c.args.under.values.now in
+    let table = c.args.under.table.now in
     let i = c.args.instant in
     let declared = c.get-declared.result.now in
     let fits = c.requires.term_fits in
@@ -156,11 +156,11 @@ read-returns-in_default-index_of-clause-is t c =
 
 pub read-bounds-indexes-place : goal.read-bounds-indexes-place
 read-bounds-indexes-place t c =
-    let spec = c.args.spec.now in
+    let spec = c.args.under.spec.now in
     let w = world_of spec in
     let args = c.args.args.now in
-    let e = c.args.values.now in
-    let table = c.args.table.now in
+    let e = c.args.under.values.now in
+    let table = c.args.under.table.now in
     let i = c.args.instant in
     let declared = c.get-declared.result.now in
     let fits = c.requires.term_fits in
@@ -170,11 +170,11 @@ read-bounds-indexes-place t c =
 
 pub read-loop-place-preserved : goal.read-loop-place-preserved
 read-loop-place-preserved t c =
-    let spec = c.args.spec.now in
+    let spec = c.args.under.spec.now in
     let w = world_of spec in
     let args = c.args.args.now in
-    let e = c.args.values.now in
-    let table = c.args.table.now in
+    let e = c.args.under.values.now in
+    let table = c.args.under.table.now in
     let i = c.args.instant in
     let declared = c.get-declared.result.now in
     let fits = c.requires.term_fits in
@@ -201,11 +201,11 @@ read-loop-place-preserved t c =
 
 pub read-slice_bounds-indexes-end : goal.read-slice_bounds-indexes-end
 read-slice_bounds-indexes-end t c =
-    let spec = c.args.spec.now in
+    let spec = c.args.under.spec.now in
     let w = world_of spec in
     let args = c.args.args.now in
-    let e = c.args.values.now in
-    let table = c.args.table.now in
+    let e = c.args.under.values.now in
+    let table = c.args.under.table.now in
     let i = c.args.instant in
     let declared = c.get-declared.result.now in
     let fits = c.requires.term_fits in
@@ -215,11 +215,11 @@ read-slice_bounds-indexes-end t c =
 
 pub read-slice_bounds-cell_of-end : goal.read-slice_bounds-cell_of-end
 read-slice_bounds-cell_of-end t c =
-    let spec = c.args.spec.now in
+    let spec = c.args.under.spec.now in
     let w = world_of spec in
     let args = c.args.args.now in
-    let e = c.args.values.now in
-    let table = c.args.table.now in
+    let e = c.args.under.values.now in
+    let table = c.args.under.table.now in
     let i = c.args.instant in
     let declared = c.get-declared.result.now in
     let fits = c.requires.term_fits in
@@ -229,16 +229,16 @@ read-slice_bounds-cell_of-end t c =
 
 pub read-cell_of-cell-requires-clause-item_in : goal.read-cell_of-cell-requires-clause-item_in
 read-cell_of-cell-requires-clause-item_in t c =
-    let r = read_item (world_of c.args.spec.now) c.args.item c.args.args.now c.args.values.now c.requires.term_fits in
-    slice_get_within c.args.spec.now.items c.args.item r.0 r.1
+    let r = read_item (world_of c.args.under.spec.now) c.args.item c.args.args.now c.args.under.values.now c.requires.term_fits in
+    slice_get_within c.args.under.spec.now.items c.args.item r.0 r.1
 
 pub read-cell_of-cell-requires-clause-args_in : goal.read-cell_of-cell-requires-clause-args_in
 read-cell_of-cell-requires-clause-args_in t c =
-    let spec = c.args.spec.now in
+    let spec = c.args.under.spec.now in
     let w = world_of spec in
     let args = c.args.args.now in
-    let e = c.args.values.now in
-    let table = c.args.table.now in
+    let e = c.args.under.values.now in
+    let table = c.args.under.table.now in
     let i = c.args.instant in
     let declared = c.get-declared.result.now in
     let fits = c.requires.term_fits in
@@ -258,11 +258,11 @@ read-cell_of-cell-requires-clause-args_in t c =
 
 pub read-get-index-requires : goal.read-get-index-requires
 read-get-index-requires t c =
-    let spec = c.args.spec.now in
+    let spec = c.args.under.spec.now in
     let w = world_of spec in
     let args = c.args.args.now in
-    let e = c.args.values.now in
-    let table = c.args.table.now in
+    let e = c.args.under.values.now in
+    let table = c.args.under.table.now in
     let i = c.args.instant in
     let declared = c.get-declared.result.now in
     let fits = c.requires.term_fits in
@@ -271,11 +271,11 @@ read-get-index-requires t c =
 
 pub read-value_at-requires-clause-domain_in : goal.read-value_at-requires-clause-domain_in
 read-value_at-requires-clause-domain_in t c =
-    let spec = c.args.spec.now in
+    let spec = c.args.under.spec.now in
     let w = world_of spec in
     let args = c.args.args.now in
-    let e = c.args.values.now in
-    let table = c.args.table.now in
+    let e = c.args.under.values.now in
+    let table = c.args.under.table.now in
     let i = c.args.instant in
     let declared = c.get-declared.result.now in
     let fits = c.requires.term_fits in
@@ -284,11 +284,11 @@ read-value_at-requires-clause-domain_in t c =
 
 pub read-value_at-requires-clause-index_in : goal.read-value_at-requires-clause-index_in
 read-value_at-requires-clause-index_in t c =
-    let spec = c.args.spec.now in
+    let spec = c.args.under.spec.now in
     let w = world_of spec in
     let args = c.args.args.now in
-    let e = c.args.values.now in
-    let table = c.args.table.now in
+    let e = c.args.under.values.now in
+    let table = c.args.under.table.now in
     let i = c.args.instant in
     let declared = c.get-declared.result.now in
     let fits = c.requires.term_fits in
@@ -298,11 +298,11 @@ read-value_at-requires-clause-index_in t c =
 
 pub read-returns-clause-is : goal.read-returns-clause-is
 read-returns-clause-is t c =
-    let spec = c.args.spec.now in
+    let spec = c.args.under.spec.now in
     let w = world_of spec in
     let args = c.args.args.now in
-    let e = c.args.values.now in
-    let table = c.args.table.now in
+    let e = c.args.under.values.now in
+    let table = c.args.under.table.now in
     let i = c.args.instant in
     let declared = c.get-declared.result.now in
     let fits = c.requires.term_fits in
@@ -327,11 +327,11 @@ read-returns-clause-is t c =
 
 pub read-returns-clause-bounded : goal.read-returns-clause-bounded
 read-returns-clause-bounded t c =
-    let spec = c.args.spec.now in
+    let spec = c.args.under.spec.now in
     let w = world_of spec in
     let args = c.args.args.now in
-    let e = c.args.values.now in
-    let table = c.args.table.now in
+    let e = c.args.under.values.now in
+    let table = c.args.under.table.now in
     let i = c.args.instant in
     let declared = c.get-declared.result.now in
     let fits = c.requires.term_fits in
@@ -345,11 +345,11 @@ read-returns-clause-bounded t c =
 
 pub sum-value_of-requires : goal.sum-value_of-requires
 sum-value_of-requires t c =
-    let spec = c.args.spec.now in
+    let spec = c.args.under.spec.now in
     let w = world_of spec in
     let parts = c.args.parts.now in
-    let e = c.args.values.now in
-    let table = c.args.table.now in
+    let e = c.args.under.values.now in
+    let table = c.args.under.table.now in
     let i = c.args.instant in
     let fits = c.requires.term_fits in
     let k = c.loop-part.part-index in
@@ -359,11 +359,11 @@ sum-value_of-requires t c =
 
 pub sum-returns-in_default-clause-is : goal.sum-returns-in_default-clause-is
 sum-returns-in_default-clause-is t c =
-    let spec = c.args.spec.now in
+    let spec = c.args.under.spec.now in
     let w = world_of spec in
     let parts = c.args.parts.now in
-    let e = c.args.values.now in
-    let table = c.args.table.now in
+    let e = c.args.under.values.now in
+    let table = c.args.under.table.now in
     let i = c.args.instant in
     let fits = c.requires.term_fits in
     let k = c.loop-part.part-index in
@@ -375,11 +375,11 @@ sum-returns-in_default-clause-is t c =
 
 pub sum-overflow_sub-sum : goal.sum-overflow_sub-sum
 sum-overflow_sub-sum t c =
-    let spec = c.args.spec.now in
+    let spec = c.args.under.spec.now in
     let w = world_of spec in
     let parts = c.args.parts.now in
-    let e = c.args.values.now in
-    let table = c.args.table.now in
+    let e = c.args.under.values.now in
+    let table = c.args.under.table.now in
     let i = c.args.instant in
     let fits = c.requires.term_fits in
     let k = c.loop-part.part-index in
@@ -393,11 +393,11 @@ sum-overflow_sub-sum t c =
 
 pub sum-overflow_add-sum : goal.sum-overflow_add-sum
 sum-overflow_add-sum t c =
-    let spec = c.args.spec.now in
+    let spec = c.args.under.spec.now in
     let w = world_of spec in
     let parts = c.args.parts.now in
-    let e = c.args.values.now in
-    let table = c.args.table.now in
+    let e = c.args.under.values.now in
+    let table = c.args.under.table.now in
     let i = c.args.instant in
     let fits = c.requires.term_fits in
     let k = c.loop-part.part-index in
@@ -424,11 +424,11 @@ sum-overflow_add-sum t c =
 
 pub sum-loop-part-preserved : goal.sum-loop-part-preserved
 sum-loop-part-preserved t c =
-    let spec = c.args.spec.now in
+    let spec = c.args.under.spec.now in
     let w = world_of spec in
     let parts = c.args.parts.now in
-    let e = c.args.values.now in
-    let table = c.args.table.now in
+    let e = c.args.under.values.now in
+    let table = c.args.under.table.now in
     let i = c.args.instant in
     let fits = c.requires.term_fits in
     let k = c.loop-part.part-index in
@@ -467,11 +467,11 @@ sum-loop-part-preserved t c =
 
 pub sum-returns-clause-is : goal.sum-returns-clause-is
 sum-returns-clause-is t c =
-    let spec = c.args.spec.now in
+    let spec = c.args.under.spec.now in
     let w = world_of spec in
     let parts = c.args.parts.now in
-    let e = c.args.values.now in
-    let table = c.args.table.now in
+    let e = c.args.under.values.now in
+    let table = c.args.under.table.now in
     let i = c.args.instant in
     let fits = c.requires.term_fits in
     let f : SignedTerm → Option ℤ = λ p. signed_value w p e table i in
@@ -480,11 +480,11 @@ sum-returns-clause-is t c =
 
 pub sum-returns-clause-bounded : goal.sum-returns-clause-bounded
 sum-returns-clause-bounded t c =
-    let spec = c.args.spec.now in
+    let spec = c.args.under.spec.now in
     let w = world_of spec in
     let parts = c.args.parts.now in
-    let e = c.args.values.now in
-    let table = c.args.table.now in
+    let e = c.args.under.values.now in
+    let table = c.args.under.table.now in
     let i = c.args.instant in
     let fits = c.requires.term_fits in
     λ vs are z is.
@@ -495,22 +495,22 @@ sum-returns-clause-bounded t c =
     let all = ap (λ l. sum (map (own_bound w vs) l)) (take_all k parts c.loop-part-test.false) in
     sum_within w parts vs z (omega (arith, ap nat_abs same, all, so_far))
 
-pub value_of-bounds-values-level : goal.value_of-bounds-values-level
-value_of-bounds-values-level t c =
-    let spec = c.args.spec.now in
+pub value_of-bounds-under-level : goal.value_of-bounds-under-level
+value_of-bounds-under-level t c =
+    let spec = c.args.under.spec.now in
     let w = world_of spec in
-    let e = c.args.values.now in
-    let table = c.args.table.now in
+    let e = c.args.under.values.now in
+    let table = c.args.under.table.now in
     let i = c.args.instant in
     let P : Term → Type 0 = λ x. TermFits w x e in
     var_inside w c.in-Var.level e (subst P c.in-Var.is c.requires.term_fits)
 
 pub value_of-returns-in-Var-clause-is : goal.value_of-returns-in-Var-clause-is
 value_of-returns-in-Var-clause-is t c =
-    let spec = c.args.spec.now in
+    let spec = c.args.under.spec.now in
     let w = world_of spec in
-    let e = c.args.values.now in
-    let table = c.args.table.now in
+    let e = c.args.under.values.now in
+    let table = c.args.under.table.now in
     let i = c.args.instant in
     let P : Term → Type 0 = λ x. TermFits w x e in
     let level = c.in-Var.level in
@@ -523,10 +523,10 @@ value_of-returns-in-Var-clause-is t c =
 
 pub value_of-returns-in-Var-clause-bounded : goal.value_of-returns-in-Var-clause-bounded
 value_of-returns-in-Var-clause-bounded t c =
-    let spec = c.args.spec.now in
+    let spec = c.args.under.spec.now in
     let w = world_of spec in
-    let e = c.args.values.now in
-    let table = c.args.table.now in
+    let e = c.args.under.values.now in
+    let table = c.args.under.table.now in
     let i = c.args.instant in
     let P : Term → Type 0 = λ x. TermFits w x e in
     let level = c.in-Var.level in
@@ -542,20 +542,20 @@ value_of-returns-in-Var-clause-bounded t c =
 
 pub value_of-returns-in-Number-clause-is : goal.value_of-returns-in-Number-clause-is
 value_of-returns-in-Number-clause-is t c =
-    let spec = c.args.spec.now in
+    let spec = c.args.under.spec.now in
     let w = world_of spec in
-    let e = c.args.values.now in
-    let table = c.args.table.now in
+    let e = c.args.under.values.now in
+    let table = c.args.under.table.now in
     let i = c.args.instant in
     let same : pos c.in-Number.number ≡ to_z w64 (of_z w64 c.from.result) = omega (arith, ints, c.from.ensures) in
     sym (ap (λ x. value w x e table i) c.in-Number.is ∙ value-Number w c.in-Number.number e table i ∙ ap Some same)
 
 pub value_of-returns-in-Number-clause-bounded : goal.value_of-returns-in-Number-clause-bounded
 value_of-returns-in-Number-clause-bounded t c =
-    let spec = c.args.spec.now in
+    let spec = c.args.under.spec.now in
     let w = world_of spec in
-    let e = c.args.values.now in
-    let table = c.args.table.now in
+    let e = c.args.under.values.now in
+    let table = c.args.under.table.now in
     let i = c.args.instant in
     λ vs are y is.
     let Q : Term → Type 0 = λ x. IsWithin w x vs y in
@@ -564,20 +564,20 @@ value_of-returns-in-Number-clause-bounded t c =
 
 pub value_of-returns-in-Value-clause-is : goal.value_of-returns-in-Value-clause-is
 value_of-returns-in-Value-clause-is t c =
-    let spec = c.args.spec.now in
+    let spec = c.args.under.spec.now in
     let w = world_of spec in
-    let e = c.args.values.now in
-    let table = c.args.table.now in
+    let e = c.args.under.values.now in
+    let table = c.args.under.table.now in
     let i = c.args.instant in
     let same : pos c.in-Value.index ≡ to_z w64 (of_z w64 c.from-in-Value.result) = omega (arith, ints, c.from-in-Value.ensures) in
     sym (ap (λ x. value w x e table i) c.in-Value.is ∙ value-Value w c.in-Value.field-0 c.in-Value.index e table i ∙ ap Some same)
 
 pub value_of-returns-in-Value-clause-bounded : goal.value_of-returns-in-Value-clause-bounded
 value_of-returns-in-Value-clause-bounded t c =
-    let spec = c.args.spec.now in
+    let spec = c.args.under.spec.now in
     let w = world_of spec in
-    let e = c.args.values.now in
-    let table = c.args.table.now in
+    let e = c.args.under.values.now in
+    let table = c.args.under.table.now in
     let i = c.args.instant in
     let P : Term → Type 0 = λ x. TermFits w x e in
     λ vs are y is.
@@ -588,10 +588,10 @@ value_of-returns-in-Value-clause-bounded t c =
 
 pub value_of-value_of-requires : goal.value_of-value_of-requires
 value_of-value_of-requires t c =
-    let spec = c.args.spec.now in
+    let spec = c.args.under.spec.now in
     let w = world_of spec in
-    let e = c.args.values.now in
-    let table = c.args.table.now in
+    let e = c.args.under.values.now in
+    let table = c.args.under.table.now in
     let i = c.args.instant in
     let P : Term → Type 0 = λ x. TermFits w x e in
     let n = c.in-Times.number in
@@ -601,10 +601,10 @@ value_of-value_of-requires t c =
 
 pub value_of-returns-in-None-clause-is : goal.value_of-returns-in-None-clause-is
 value_of-returns-in-None-clause-is t c =
-    let spec = c.args.spec.now in
+    let spec = c.args.under.spec.now in
     let w = world_of spec in
-    let e = c.args.values.now in
-    let table = c.args.table.now in
+    let e = c.args.under.values.now in
+    let table = c.args.under.table.now in
     let i = c.args.instant in
     let P : Term → Type 0 = λ x. TermFits w x e in
     let n = c.in-Times.number in
@@ -615,10 +615,10 @@ value_of-returns-in-None-clause-is t c =
 
 pub value_of-overflow_mul-result : goal.value_of-overflow_mul-result
 value_of-overflow_mul-result t c =
-    let spec = c.args.spec.now in
+    let spec = c.args.under.spec.now in
     let w = world_of spec in
-    let e = c.args.values.now in
-    let table = c.args.table.now in
+    let e = c.args.under.values.now in
+    let table = c.args.under.table.now in
     let i = c.args.instant in
     let P : Term → Type 0 = λ x. TermFits w x e in
     let n = c.in-Times.number in
@@ -638,10 +638,10 @@ value_of-overflow_mul-result t c =
 
 pub value_of-returns-in-Some-clause-is : goal.value_of-returns-in-Some-clause-is
 value_of-returns-in-Some-clause-is t c =
-    let spec = c.args.spec.now in
+    let spec = c.args.under.spec.now in
     let w = world_of spec in
-    let e = c.args.values.now in
-    let table = c.args.table.now in
+    let e = c.args.under.values.now in
+    let table = c.args.under.table.now in
     let i = c.args.instant in
     let P : Term → Type 0 = λ x. TermFits w x e in
     let n = c.in-Times.number in
@@ -663,10 +663,10 @@ value_of-returns-in-Some-clause-is t c =
 
 pub value_of-returns-in-Some-clause-bounded : goal.value_of-returns-in-Some-clause-bounded
 value_of-returns-in-Some-clause-bounded t c =
-    let spec = c.args.spec.now in
+    let spec = c.args.under.spec.now in
     let w = world_of spec in
-    let e = c.args.values.now in
-    let table = c.args.table.now in
+    let e = c.args.under.values.now in
+    let table = c.args.under.table.now in
     let i = c.args.instant in
     let P : Term → Type 0 = λ x. TermFits w x e in
     let n = c.in-Times.number in

@@ -12,15 +12,15 @@ use Rattle.history_check.proofs.terms.+value.Given as goal
 -- the indexes so far, and those of the arguments that are left
 abbrev pub invariant-read-loop-place : goal.invariant-read-loop-place
 invariant-read-loop-place l = record {
-  told : indexes l.spec.domains l.domains (map (λ a. value (world_of l.spec) a l.values l.table l.instant) l.args)
+  told : indexes l.under.spec.now.domains l.domains (map (λ a. value (world_of l.under.spec.now) a l.under.values.now l.under.table.now l.instant) l.args)
       ≡ option_map (λ vs. take l.place l.indexes ++ vs)
-      (indexes l.spec.domains (drop l.place l.domains) (drop l.place (map (λ a. value (world_of l.spec) a l.values l.table l.instant) l.args)));
+      (indexes l.under.spec.now.domains (drop l.place l.domains) (drop l.place (map (λ a. value (world_of l.under.spec.now) a l.under.values.now l.under.table.now l.instant) l.args)));
   four : length l.indexes ≡ 4;
 }
 
 -- the sum of the parts so far, and its bound
 abbrev pub invariant-sum-loop-part : goal.invariant-sum-loop-part
 invariant-sum-loop-part l = record {
-  is : sum_of (map (λ p. signed_value (world_of l.spec) p l.values l.table l.instant) (take l.part-index l.parts)) ≡ Some l.sum;
-  small : (vs : List ℕ) → AreValues (world_of l.spec) vs l.values → nat_abs l.sum ≤ sum (map (λ p. (bound_of (world_of l.spec) vs (out-SignedTerm p).term).own) (take l.part-index l.parts));
+  is : sum_of (map (λ p. signed_value (world_of l.under.spec.now) p l.under.values.now l.under.table.now l.instant) (take l.part-index l.parts)) ≡ Some l.sum;
+  small : (vs : List ℕ) → AreValues (world_of l.under.spec.now) vs l.under.values.now → nat_abs l.sum ≤ sum (map (λ p. (bound_of (world_of l.under.spec.now) vs (out-SignedTerm p).term).own) (take l.part-index l.parts));
 }

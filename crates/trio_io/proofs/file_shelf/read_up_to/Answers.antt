@@ -5,4 +5,5 @@ use Rattle.trio_io.proofs.Fetches.{appended}
 use Rattle.trio_io.proofs.file_shelf.read_up_to.Goals as goal
 
 pub returns-in-Ok-clause-ok : goal.returns-in-Ok-clause-ok
-returns-in-Ok-clause-ok g c = appended _ _ c.in-Ok.count _ c.in-Ok.ensures.appends (grind (arith, common_steps)) c.if-count-max.true
+returns-in-Ok-clause-ok g c = λ shelf name untold.
+    appended shelf name _ _ c.in-Ok.count _ untold c.in-Ok.ensures.appends (grind (arith, common_steps)) c.if-count-max.true

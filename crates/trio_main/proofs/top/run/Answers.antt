@@ -1,13 +1,12 @@
--- The command is that of the words.
-use Rattle.std.proofs.Common.{refl, ap, ◌∙◌, Err}
-use Rattle.trio_main.proofs.top.run.Goals as goal
+-- The usage line was said where the words are no command.
+use Rattle.std.proofs.Common.{ap, ◌∙◌, Err, inl}
 use Rattle.trio_main.specs.declared.status.Status.TheVariants as status
-use Rattle.trio_main.specs.Messages.{usage_line}
-
-pub returns-in-Ok-clause-answer : goal.returns-in-Ok-clause-answer
-returns-in-Ok-clause-answer g c = rw c.in-Ok.ensures.ok c.serve.ensures.answer
+use Rattle.trio_main.specs.Message.{usage_line}
+use Rattle.trio_main.proofs.Jobs.{usage_due}
+use Rattle.trio_main.proofs.top.run.Goals as goal
 
 pub returns-in-Err-Usage-clause-answer : goal.returns-in-Err-Usage-clause-answer
 returns-in-Err-Usage-clause-answer g c =
     let none = c.read_words.ensures.usage (c.in-Err-Usage.is ∙ ap Err c.in-Err-Usage.field-0-is) in
-    rw none (status.Usage, usage_line, (refl, (λ name. refl), refl), c.finish.ensures.said)
+    rw none
+    (status.Usage, usage_line, inl (usage_due (g.F.Shelf.seen c.args.shelf.now)), c.say_usage.ensures)

@@ -1,0 +1,11 @@
+mod Decodes
+mod Spellings
+mod LineRuns
+mod LineSteps
+mod Arguments
+mod RowNumbers
+mod Fits
+pub mod Answered
+mod PrintedLines
+mod PrintedValues
+mod Whole

@@ -1,0 +1,23 @@
+//! Histories and tables as texts: their readers, and what they print.
+#![tactic(auto)]
+
+mod fault;
+mod given;
+mod laws;
+mod line;
+mod lines;
+mod printing;
+mod reader;
+mod reading;
+mod rows;
+mod table;
+mod texts;
+
+pub use fault::HistFault;
+pub use given::Given;
+pub use laws::text_has_one_history;
+pub use line::{Line, Lines, Value, Values};
+pub use printing::row_name;
+pub use reader::read_history;
+pub use table::{Table, Tables};
+pub use texts::{given_text, list_text, table_text};

@@ -1,0 +1,54 @@
+-- Given histories: the row that a fault names, the first unknown cell, and the table that they are.
+use Rattle.std.proofs.Common.{◌≡◌, ℕ, ◌<◌, nat_lt, ◌&&◌, List, [], ◌∷◌, length, map, Option, None, Some, Err, refl, sym, ◌∙◌, ap, subst, arith, not}
+use Rattle.std.specs.Prelude.{is_none}
+use Rattle.std.specs.List.{list_all, zip}
+use Rattle.std.proofs.lemmas.List.{length-map}
+use Rattle.std.proofs.lemmas.List.Quantifiers.{position-Some}
+use Rattle.trio_types.specs.World.{World}
+use Rattle.trio_types.specs.Cells.{Cell, rows_of, cells_of, cell_size, IsTable}
+use Rattle.history_table.specs.declared.fault.HistFault.{HistFault}
+use Rattle.history_table.specs.declared.fault.HistFault.TheVariants as fault
+use Rattle.history_table.specs.Lines.{Placed}
+use Rattle.history_table.specs.History.{lines_fault, have_row, missing_row, if_whole, if_sound, IsHistoryAnswer}
+use Rattle.history_table.specs.Fitting.{is_below, IsGiven, first_unknown}
+use Rattle.history_table.proofs.Answered.{OfLine, of_lines}
+
+whole_missing : (w : World) (lines : List Placed) (o : Option ℕ) (row : ℕ) → missing_row w lines ≡ o → if_whole w lines o ≡ Err (fault.MissingRow row) →
+    row < length (rows_of w)
+whole_missing w lines None row is said = cc
+whole_missing w lines (Some k) row is said =
+    let same : k ≡ row = cc in
+    let first : missing_row w lines ≡ Some row = is ∙ ap Some same in
+    (position-Some (λ r. not (have_row w lines r)) (rows_of w) row (record { item = 0; args = [] }) first).0
+
+sound_missing : (w : World) (lines : List Placed) (o : Option HistFault) (row : ℕ) → lines_fault w [] lines ≡ o → if_sound w lines o ≡ Err (fault.MissingRow row) →
+    row < length (rows_of w)
+unfolding OfLine
+sound_missing w lines None row is said = whole_missing w lines (missing_row w lines) row refl said
+sound_missing w lines (Some f) row is said =
+    let same : f ≡ fault.MissingRow row = cc in
+    absurd (subst OfLine same (of_lines w [] lines f is))
+
+-- the row that is missing is one of the specification's
+pub missing_within : (w : World) (text : List ℕ) (row : ℕ) → IsHistoryAnswer w text (Err (fault.MissingRow row)) → row < length (rows_of w)
+missing_within w text row x = sound_missing w x.lines (lines_fault w [] x.lines) row refl x.answered
+
+-- the first unknown cell is one of the history's
+pub unknown_within : (w : World) (given : List (Option ℕ)) (cell : ℕ) → IsGiven w given → first_unknown given ≡ Some cell → cell < length (cells_of w)
+unknown_within w given cell fits first =
+    let inside : cell < length given = (position-Some is_none given cell None first).0 in
+    omega (arith, fits.whole)
+
+known_within : (w : World) (cells : List Cell) (table : List ℕ) →
+    list_all (λ p. is_below p.1 (cell_size w p.0)) (zip cells (map Some table)) ≡ list_all (λ p. nat_lt p.1 (cell_size w p.0)) (zip cells table)
+known_within w [] table = refl
+known_within w (c ∷ cs) [] = refl
+known_within w (c ∷ cs) (v ∷ vs) = ap (λ b. nat_lt v (cell_size w c) && b) (known_within w cs vs)
+
+-- a given history in which every value is known is a table
+pub table_fits : (w : World) (given : List (Option ℕ)) (table : List ℕ) → IsGiven w given → given ≡ map Some table → IsTable w table
+table_fits w given table fits known = record {
+  whole = sym (length-map table Some) ∙ ap length (sym known) ∙ fits.whole;
+  within = sym (known_within w (cells_of w) table)
+      ∙ ap (λ g. list_all (λ p. is_below p.1 (cell_size w p.0)) (zip (cells_of w) g)) (sym known) ∙ fits.within;
+}

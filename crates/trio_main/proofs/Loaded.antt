@@ -1,0 +1,58 @@
+-- What files yield, seen from before an earlier fetch, and the answers that their faults are.
+use Rattle.std.proofs.Common.{ℕ, ◌<◌, inl, inr, List, Option, Result, Ok, Err, refl, sym, ◌∙◌, arith}
+use Rattle.trio_io.specs.Outside.{ShelfView, OnlyReads}
+use Rattle.trio_main.specs.declared.fault.Text.{Text}
+use Rattle.trio_main.specs.declared.fault.Fault.{Fault}
+use Rattle.trio_types.specs.declared.spec.Spec.{Spec}
+use Rattle.trio_types.specs.Verdict.{world_of}
+use Rattle.trio_main.specs.declared.command.Command.{Command}
+use Rattle.trio_main.specs.declared.fault.Text.TheVariants as text
+use Rattle.trio_main.specs.Command.{files_read}
+use Rattle.trio_main.specs.Fault.{status_of}
+use Rattle.trio_main.specs.Message.{message}
+use Rattle.trio_main.specs.Due.{Due}
+use Rattle.trio_main.specs.Answer.{Answers}
+use Rattle.trio_main.proofs.Jobs.{cause_answers}
+use Rattle.trio_main.specs.Load.{FileFault, Yields, ReadsHistory, YieldsSpec, YieldsHistory, LoadFault, HasCause}
+
+file_earlier : (which : Text) (before middle : ShelfView) (name : List ℕ) (f : Fault) (most : ℕ) → OnlyReads most before middle →
+    FileFault which middle name f → FileFault which before name f
+file_earlier which before middle name f most reads (inl gone) = inl (gone.0, λ told. sym (reads.files name) ∙ gone.1 (reads.tells ∙ told))
+file_earlier which before middle name f most reads (inr long) = inr (long.0, λ told. rw (reads.files name) at (long.1 (reads.tells ∙ told)))
+
+-- what a file yields after a fetch, it yielded before
+pub yields_earlier : {X : Type 0} (parts : List ℕ → Result X Fault → Type 0) (which : Text) (before middle : ShelfView) (name : List ℕ)
+    (r : Result X Fault) (most : ℕ) → OnlyReads most before middle → Yields parts which middle name r → Yields parts which before name r
+yields_earlier parts which before middle name r most reads (inl x) = inl (x.0, x.1, file_earlier which before middle name x.0 most reads x.2)
+yields_earlier parts which before middle name r most reads (inr x) = inr (record {
+  bytes = x.bytes;
+  there = λ told. sym (reads.files name) ∙ x.there (reads.tells ∙ told);
+  within = x.within;
+  said = x.said;
+})
+
+-- a cause after a fetch is one from before it
+pub cause_earlier : (before middle now : ShelfView) (cause early : Fault → Type 0) (f : Fault) (most : ℕ) → OnlyReads most before middle →
+    ((g : Fault) → cause g → early g) → HasCause middle now cause f → HasCause before now early f
+cause_earlier before middle now cause early f most reads back (inl failed) = inl (failed.0, omega (arith, reads.counts.failed_fetches, failed.1))
+cause_earlier before middle now cause early f most reads back (inr (inl want)) = inr (inl want)
+cause_earlier before middle now cause early f most reads back (inr (inr has)) =
+    inr (inr (back f has.0, λ is. omega (arith, reads.counts.absences, has.1 is)))
+
+-- the specification has a fault, and no other file was fetched
+pub spec_fault_answers : (asked : Option Command) (before now : ShelfView) (s h : List ℕ) (f : Fault) →
+    ((n : ℕ) (g : Fault) → LoadFault before s h n g → Due asked before n (status_of g) (message g)) → 0 < files_read asked →
+    OnlyReads 1 before now → HasCause before now (λ g. YieldsSpec before s (Err g)) f → Answers asked before now (status_of f) (message f)
+spec_fault_answers asked before now s h f due some reads cause =
+    cause_answers asked before now (λ g. YieldsSpec before s (Err g)) 1 f (λ g y. due 1 g (inl (refl, y))) reads.counts.at_most some cause
+
+-- the specification has none, and the history has a fault
+pub history_fault_answers : (asked : Option Command) (before middle now : ShelfView) (s h : List ℕ) (spec : Spec) (f : Fault) →
+    ((n : ℕ) (g : Fault) → LoadFault before s h n g → Due asked before n (status_of g) (message g)) → 0 < files_read asked →
+    OnlyReads 1 before middle → OnlyReads 1 middle now → YieldsSpec before s (Ok spec) →
+    HasCause middle now (λ g. YieldsHistory (world_of spec) middle h (Err g)) f → Answers asked before now (status_of f) (message f)
+history_fault_answers asked before middle now s h spec f due some reads later first cause =
+    cause_answers asked before now (λ g. YieldsHistory (world_of spec) before h (Err g)) 2 f
+    (λ g y. due 2 g (inr (refl, record { spec = spec; first = first; second = y }))) (omega (arith, reads.counts.at_most, later.counts.at_most)) some
+    (cause_earlier before middle now _ _ f 1 reads
+    (λ g y. yields_earlier (ReadsHistory (world_of spec)) text.History before middle h (Err g) 1 reads y) cause)

@@ -1,0 +1,40 @@
+-- Which words are which command, and which files it reads and saves.
+use Rattle.std.specs.Prelude.{ℕ, ◌+◌, Bool, true, false, not, ◌&&◌, ◌==◌, if◌then◌else◌, List, [], ◌∷◌, map, Option, None, Some, String, string_bytes, codes}
+use Rattle.std.specs.Str.{bytes_eq}
+use Rattle.std.specs.declared.alloc.Global.{Global}
+use Rattle.trio_main.specs.declared.command.Command.{Command}
+use Rattle.trio_main.specs.declared.command.Command.TheVariants as command
+
+-- the words' bytes
+abbrev pub words_of : List (String Global) → List (List ℕ)
+words_of words = map string_bytes words
+
+-- a word that names a file: it is not empty and does not begin with `--`
+abbrev pub names_a_file : List ℕ → Bool
+names_a_file [] = false
+names_a_file (a ∷ b ∷ word) = not (a == 45 && b == 45)
+names_a_file word = true
+
+-- the command is `check` with the names of a specification and a history; no other words are one
+abbrev pub command_of : List (List ℕ) → Option Command
+command_of (word ∷ spec ∷ history ∷ []) =
+    if bytes_eq word (codes "check") && (names_a_file spec && names_a_file history) then Some (command.Check spec history) else None
+command_of words = None
+
+-- how many files the command reads
+abbrev pub files_read : Option Command → ℕ
+files_read None = 0
+files_read (Some (command.Check spec history)) = 2
+
+-- the name of the file that the command may save
+abbrev pub saved_name : Option Command → Option (List ℕ)
+saved_name None = None
+saved_name (Some (command.Check spec history)) = None
+
+abbrev one_if_some : Option (List ℕ) → ℕ
+one_if_some None = 0
+one_if_some (Some name) = 1
+
+-- how many places of files the command has
+abbrev pub files_named : Option Command → ℕ
+files_named asked = files_read asked + one_if_some (saved_name asked)
