@@ -10,9 +10,7 @@ use crate::sense::{Sense, domain_of, sense_of};
 use sqlite_items::Boxed;
 use std::alloc::{AllocError, Global};
 use trio_scope::{Binder, Scope};
-use trio_syntax::{
-    ClaimTree, FormulaTree, PartTree, Quantifier, TermShape, TermTree, Written,
-};
+use trio_syntax::{ClaimTree, FormulaTree, PartTree, Quantifier, TermShape, TermTree, Written};
 use trio_types::{Axiom, Axioms, Formula, Formulas, List, SignedTerm, SignedTerms, Term, Terms};
 
 /// The axioms of a tree, or its goals; only want of memory refuses them.

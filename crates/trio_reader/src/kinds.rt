@@ -208,10 +208,7 @@ fn first_in_read(
 ) -> Option<usize>
     ensures { result ≡ least (wrong_places (read_uses world.now.scope.now.tree.now (variables_of around.now) inside place item arguments.now)) }
 {
-    let own = unless(
-        is_right_read(world, inside, item, arguments.len()),
-        place,
-    );
+    let own = unless(is_right_read(world, inside, item, arguments.len()), place);
     match element(world.items.as_slice(), item as usize) {
         None => own,
         Some(found) => earlier(
@@ -264,7 +261,14 @@ fn first_in_shape(
         TermShape::Call(mention, arguments) => {
             let sense = sense_of(world.scope, around, &mention.name);
             let item = sense.item(world.scope.items());
-            first_in_read(world, around, inside, mention.place, item, arguments.as_slice())
+            first_in_read(
+                world,
+                around,
+                inside,
+                mention.place,
+                item,
+                arguments.as_slice(),
+            )
         }
         _ => None,
     }

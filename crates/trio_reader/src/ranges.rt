@@ -25,10 +25,7 @@ pub fn first_out_of_range(alloc: Global, tree: &SpecTree) -> Result<Option<usize
     let statements = first_in_statements(tree.declarations.as_slice())?;
     let named = first_named(tree.instants.number, tree.claims.as_slice());
     let numbers = first_in_claims(alloc, &Numbers {}, tree)?;
-    Ok(earlier(
-        instants,
-        earlier(statements, earlier(named, numbers)),
-    ))
+    Ok(earlier(instants, earlier(statements, earlier(named, numbers))))
 }
 
 /// No number is above a million.

@@ -21,7 +21,11 @@ fn names_are_known_once(rt: HostRuntime) {
             None,
             Some(14),
         ),
-        ("time 1; item x : bool; axiom a : ex x : bool (x);", None, Some(12)),
+        (
+            "time 1; item x : bool; axiom a : ex x : bool (x);",
+            None,
+            Some(12),
+        ),
     ];
     for (text, unknown, repeated) in rows {
         let found = tokens(rt.alloc(), text.as_bytes()).expect(&rt, "tokens");

@@ -9,8 +9,14 @@ formula_of-returns-in_ok-term_of-in-Lone-clause-made t c =
 
 pub formula_of-returns-in_ok-right-in-Compare-clause-made : goal.formula_of-returns-in_ok-right-in-Compare-clause-made
 formula_of-returns-in_ok-right-in-Compare-clause-made t c =
-    rw (c.in-Compare.is, formula-Compare, c.in_ok-left-in-Compare.ensures, c.in_ok-right-in-Compare.ensures, c.as_slice-in-Compare.ensures.value,
-    c.as_slice-in-Compare-2.ensures.value) refl
+    rw (
+      c.in-Compare.is,
+      formula-Compare,
+      c.in_ok-left-in-Compare.ensures,
+      c.in_ok-right-in-Compare.ensures,
+      c.as_slice-in-Compare.ensures.value,
+      c.as_slice-in-Compare-2.ensures.value,
+    ) refl
 
 pub formula_of-returns-in_ok-boxed_of-in-Not-clause-made : goal.formula_of-returns-in_ok-boxed_of-in-Not-clause-made
 formula_of-returns-in_ok-boxed_of-in-Not-clause-made t c =
@@ -26,13 +32,27 @@ formula_of-returns-in_ok-formulas_of-in-Or-clause-made t c =
 
 pub formula_of-returns-in_ok-right-in-Implies-clause-made : goal.formula_of-returns-in_ok-right-in-Implies-clause-made
 formula_of-returns-in_ok-right-in-Implies-clause-made t c =
-    rw (c.in-Implies.is, formula-Implies, c.in_ok-right-in-Implies.ensures.made, c.in_ok-left-in-Implies.ensures.kept, c.in_ok-left-in-Implies.ensures.made, c.get-in-Implies.ensures,
-    c.get-in-Implies-2.ensures) refl
+    rw (
+      c.in-Implies.is,
+      formula-Implies,
+      c.in_ok-right-in-Implies.ensures.made,
+      c.in_ok-left-in-Implies.ensures.kept,
+      c.in_ok-left-in-Implies.ensures.made,
+      c.get-in-Implies.ensures,
+      c.get-in-Implies-2.ensures,
+    ) refl
 
 pub formula_of-returns-in_ok-right-in-Iff-clause-made : goal.formula_of-returns-in_ok-right-in-Iff-clause-made
 formula_of-returns-in_ok-right-in-Iff-clause-made t c =
-    rw (c.in-Iff.is, formula-Iff, c.in_ok-right-in-Iff.ensures.made, c.in_ok-left-in-Iff.ensures.kept, c.in_ok-left-in-Iff.ensures.made, c.get-in-Iff.ensures,
-    c.get-in-Iff-2.ensures) refl
+    rw (
+      c.in-Iff.is,
+      formula-Iff,
+      c.in_ok-right-in-Iff.ensures.made,
+      c.in_ok-left-in-Iff.ensures.kept,
+      c.in_ok-left-in-Iff.ensures.made,
+      c.get-in-Iff.ensures,
+      c.get-in-Iff-2.ensures,
+    ) refl
 
 pub formula_of-returns-in-Quantified-clause-made : goal.formula_of-returns-in-Quantified-clause-made
 formula_of-returns-in-Quantified-clause-made t c =
@@ -44,10 +64,24 @@ formula_of-returns-in_ok-boxed_of-in-One-clause-made t c =
 
 pub formula_of-returns-in_ok-distance-in-Far-clause-made : goal.formula_of-returns-in_ok-distance-in-Far-clause-made
 formula_of-returns-in_ok-distance-in-Far-clause-made t c =
-    rw (c.in-Far.is, formula-Far, c.in_ok-distance-in-Far.ensures, c.as_slice-in-Far.ensures.value, c.in_ok-part-in-Far.ensures.kept, c.in_ok-part-in-Far.ensures.made,
-    c.get-in-Far.ensures) refl
+    rw (
+      c.in-Far.is,
+      formula-Far,
+      c.in_ok-distance-in-Far.ensures,
+      c.as_slice-in-Far.ensures.value,
+      c.in_ok-part-in-Far.ensures.kept,
+      c.in_ok-part-in-Far.ensures.made,
+      c.get-in-Far.ensures,
+    ) refl
 
 pub formula_of-returns-in_ok-right-in-Pair-clause-made : goal.formula_of-returns-in_ok-right-in-Pair-clause-made
 formula_of-returns-in_ok-right-in-Pair-clause-made t c =
-    rw (c.in-Pair.is, formula-Pair, c.in_ok-right-in-Pair.ensures.made, c.in_ok-left-in-Pair.ensures.kept, c.in_ok-left-in-Pair.ensures.made, c.get-in-Pair.ensures,
-    c.get-in-Pair-2.ensures) refl
+    rw (
+      c.in-Pair.is,
+      formula-Pair,
+      c.in_ok-right-in-Pair.ensures.made,
+      c.in_ok-left-in-Pair.ensures.kept,
+      c.in_ok-left-in-Pair.ensures.made,
+      c.get-in-Pair.ensures,
+      c.get-in-Pair-2.ensures,
+    ) refl

@@ -25,13 +25,29 @@ first_in-returns-in-Or-clause-found g t c = rw (c.in-Or.is, in-Or, ← c.as_slic
 
 pub first_in-returns-in_ok-right-in-Implies-clause-found : goal.first_in-returns-in_ok-right-in-Implies-clause-found
 first_in-returns-in_ok-right-in-Implies-clause-found g t c =
-    rw (c.in-Implies.is, in-Implies, least-append, ← c.get-in-Implies.ensures, ← c.get-in-Implies-2.ensures, ← c.in_ok-left-in-Implies.ensures.found,
-    ← c.in_ok-left-in-Implies.ensures.kept, ← c.in_ok-right-in-Implies.ensures.found) c.earlier.ensures
+    rw (
+      c.in-Implies.is,
+      in-Implies,
+      least-append,
+      ← c.get-in-Implies.ensures,
+      ← c.get-in-Implies-2.ensures,
+      ← c.in_ok-left-in-Implies.ensures.found,
+      ← c.in_ok-left-in-Implies.ensures.kept,
+      ← c.in_ok-right-in-Implies.ensures.found,
+    ) c.earlier.ensures
 
 pub first_in-returns-in_ok-right-in-Iff-clause-found : goal.first_in-returns-in_ok-right-in-Iff-clause-found
 first_in-returns-in_ok-right-in-Iff-clause-found g t c =
-    rw (c.in-Iff.is, in-Iff, least-append, ← c.get-in-Iff.ensures, ← c.get-in-Iff-2.ensures, ← c.in_ok-left-in-Iff.ensures.found,
-    ← c.in_ok-left-in-Iff.ensures.kept, ← c.in_ok-right-in-Iff.ensures.found) c.earlier-in-Iff.ensures
+    rw (
+      c.in-Iff.is,
+      in-Iff,
+      least-append,
+      ← c.get-in-Iff.ensures,
+      ← c.get-in-Iff-2.ensures,
+      ← c.in_ok-left-in-Iff.ensures.found,
+      ← c.in_ok-left-in-Iff.ensures.kept,
+      ← c.in_ok-right-in-Iff.ensures.found,
+    ) c.earlier-in-Iff.ensures
 
 pub first_in-returns-in-Quantified-clause-found : goal.first_in-returns-in-Quantified-clause-found
 first_in-returns-in-Quantified-clause-found g t c =
@@ -55,8 +71,16 @@ first_in-returns-in_ok-part-in-Far-clause-found g t c =
 
 pub first_in-returns-in_ok-right-in-Pair-clause-found : goal.first_in-returns-in_ok-right-in-Pair-clause-found
 first_in-returns-in_ok-right-in-Pair-clause-found g t c =
-    rw (c.in-Pair.is, in-Pair, least-append, ← c.get-in-Pair.ensures, ← c.get-in-Pair-2.ensures, ← c.in_ok-left-in-Pair.ensures.found,
-    ← c.in_ok-left-in-Pair.ensures.kept, ← c.in_ok-right-in-Pair.ensures.found) c.earlier-in-Pair.ensures
+    rw (
+      c.in-Pair.is,
+      in-Pair,
+      least-append,
+      ← c.get-in-Pair.ensures,
+      ← c.get-in-Pair-2.ensures,
+      ← c.in_ok-left-in-Pair.ensures.found,
+      ← c.in_ok-left-in-Pair.ensures.kept,
+      ← c.in_ok-right-in-Pair.ensures.found,
+    ) c.earlier-in-Pair.ensures
 
 pub first_among-loop-formula-preserved : goal.first_among-loop-formula-preserved
 first_among-loop-formula-preserved g t c = (
