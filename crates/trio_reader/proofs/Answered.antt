@@ -1,5 +1,5 @@
 -- Every text is a specification or has a fault.
-use Rattle.std.proofs.Common.{◌≡◌, ◌≢◌, ℕ, ◌⊎◌, inl, inr, List, Option, None, Some, refl, ◌∙◌}
+use Rattle.std.proofs.Common.{◌≡◌, ◌≢◌, ℕ, ◌⊎◌, inl, inr, List, Option, None, Some, refl}
 use Rattle.trio_types.specs.declared.spec.Spec.{Spec}
 use Rattle.trio_types.specs.declared.spec.Which.{Which}
 use Rattle.trio_text.specs.declared.token.Token.{Token}
@@ -19,7 +19,7 @@ use Rattle.trio_reader.specs.declared.fault.SpecFault.TheVariants as fault
 use Rattle.trio_reader.specs.Erasure.{parts_of_tree}
 use Rattle.trio_reader.specs.Kinds.{kind_places}
 use Rattle.trio_reader.specs.Ranges.{out_of_range}
-use Rattle.trio_reader.specs.Reading.{tree_fault, IsShallow, IsTreeText, IsSpecText, HasFault}
+use Rattle.trio_reader.specs.Reading.{IsShallow, IsTreeText, IsSpecText, HasFault}
 use Rattle.trio_reader.specs.Sound.{IsSound}
 use Rattle.trio_reader.proofs.WellFormed.{well_formed}
 use Rattle.trio_reader.proofs.Phases.{unknown_is, twice_is, kind_is, range_is, limit_is, IsNamed, IsRanged}

@@ -9,11 +9,11 @@ use Rattle.trio_syntax.specs.declared.tree.Quantifier.{Quantifier}
 use Rattle.trio_syntax.specs.declared.tree.Mention.{Mention}
 use Rattle.trio_syntax.specs.declared.tree.Written.{Written}
 use Rattle.trio_syntax.specs.declared.tree.RefTree.{RefTree}
-use Rattle.trio_syntax.specs.declared.tree.TermTree.{TermTree, out-TermTree, fold-TermTree, fold_out-TermTree}
-use Rattle.trio_syntax.specs.declared.tree.TermShape.{TermShape, TermShape-F, roll-TermShape, map-TermShape, fold-TermShape, fold-roll-TermShape}
+use Rattle.trio_syntax.specs.declared.tree.TermTree.{TermTree, out-TermTree, fold_out-TermTree}
+use Rattle.trio_syntax.specs.declared.tree.TermShape.{TermShape, TermShape-F, roll-TermShape, map-TermShape, fold-roll-TermShape}
 use Rattle.trio_syntax.specs.declared.tree.TermShape.TheOpen as open_shape
 use Rattle.trio_syntax.specs.declared.tree.TermShape.TheVariants as shape
-use Rattle.trio_syntax.specs.declared.tree.PartTree.{PartTree, out-PartTree, fold-PartTree, fold_out-PartTree}
+use Rattle.trio_syntax.specs.declared.tree.PartTree.{PartTree, fold-PartTree, fold_out-PartTree}
 use Rattle.trio_syntax.specs.declared.tree.FormulaTree.{FormulaTree}
 use Rattle.trio_syntax.specs.declared.tree.FormulaTree.TheVariants as tree_formula
 use Rattle.trio_syntax.specs.declared.tree.FormulaTree.TheOpen.{FormulaTree-F}
@@ -21,7 +21,6 @@ use Rattle.trio_syntax.specs.declared.tree.FormulaTree.TheOpen as open_formula
 use Rattle.trio_syntax.specs.declared.tree.FormulaTree.TheFolds.{fold-roll-FormulaTree, map-FormulaTree}
 use Rattle.trio_syntax.specs.declared.tree.FormulaTree.TheViews.{roll-FormulaTree}
 use Rattle.trio_syntax.specs.declared.tree.SpecTree.{SpecTree}
-use Rattle.trio_types.specs.declared.formula.Term.{Term}
 use Rattle.trio_types.specs.declared.formula.Term.TheVariants as term
 use Rattle.trio_types.specs.declared.formula.SignedTerm.{SignedTerm}
 use Rattle.trio_types.specs.declared.formula.Formula.{Formula}

@@ -8,7 +8,6 @@ use Rattle.std.proofs.lemmas.List.{length-map}
 use Rattle.std.proofs.lemmas.List.Folds.{list_all-append, list_all-map}
 use Rattle.trio_types.specs.declared.spec.Item.{Item}
 use Rattle.trio_types.specs.declared.formula.Term.{Term}
-use Rattle.trio_types.specs.declared.formula.Term.TheVariants as term
 use Rattle.trio_types.specs.declared.formula.SignedTerm.{SignedTerm, out-SignedTerm, out-roll-SignedTerm}
 use Rattle.trio_types.specs.Kinds.{Use, Gathered, gathered, kind_in, term_uses, is_right, in_role, named, part, argument, of_item, argument_uses}
 use Rattle.trio_types.specs.Kinds.{args_of as arguments_of}

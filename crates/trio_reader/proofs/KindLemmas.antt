@@ -1,18 +1,16 @@
 -- Kinds of terms, and places of wrong uses, form by form.
 use Rattle.std.proofs.Common.{◌≡◌, ◌⊎◌, ℕ, ℤ, pos, ◌+ℤ◌, Bool, true, false, nat_lt, if◌then◌else◌, List, [], ◌∷◌, ◌++◌, Option, None, Some, length, map, slice_get, refl, ap, sym, ◌∙◌, arith}
 use Rattle.std.proofs.lemmas.List.FromFn.{length-map-range_with_len}
-use Rattle.std.proofs.lemmas.List.{append-nil, length-map}
-use Rattle.std.proofs.lemmas.Grind.{flat_map-append}
+use Rattle.std.proofs.lemmas.List.{append-nil}
 use Rattle.std.proofs.lemmas.Option.{slice_get-map}
 use Rattle.trio_types.specs.declared.spec.DomainKind.TheVariants as domain_kind
 use Rattle.trio_types.specs.declared.spec.Domain.{Domain}
 use Rattle.trio_types.specs.declared.spec.Item.{Item}
 use Rattle.trio_types.specs.declared.formula.Term.{Term}
 use Rattle.trio_types.specs.declared.formula.Term.TheVariants as term
-use Rattle.trio_types.specs.World.{World, integers, size_of}
+use Rattle.trio_types.specs.World.{World, integers}
 use Rattle.trio_types.specs.Kinds.{Kind, Use, Gathered, no_kind, number, truth_value, word, kind, kind_in, kind_of_constant, is_right, term_uses, in_role, named, argument, of_item, gather_term}
 use Rattle.trio_types.proofs.KindsAt.{gathered-Number, gathered-Value, gathered-Var, gathered-Read, gathered-Sum, gathered-Times}
-use Rattle.trio_reader.specs.declared.kind.TermKind.{TermKind}
 use Rattle.trio_reader.specs.declared.kind.TermKind.TheVariants as code
 use Rattle.trio_reader.specs.TermKinds.{seen}
 use Rattle.trio_syntax.specs.declared.tree.Mention.{Mention}
@@ -33,7 +31,7 @@ use Rattle.std.specs.List.{flat_map, zip}
 use Rattle.trio_types.specs.declared.formula.Term.TheOpen as open_term
 use Rattle.std.specs.Option.{option_map}
 use Rattle.trio_reader.specs.declared.sense.Sense.{Sense}
-use Rattle.trio_reader.specs.Kinds.{Placed, placed, wrong_places, kind_of, item_use, name_uses, argument_use}
+use Rattle.trio_reader.specs.Kinds.{placed, wrong_places, kind_of, item_use, name_uses, argument_use}
 
 module _ (w : World) (vs : List ℕ) where
   pub kind-no_item : (n : ℕ) (args : List Term) → slice_get w.items n ≡ None → kind w vs (term.Read n args) ≡ no_kind

@@ -1,5 +1,5 @@
 -- What the reader has put together is what its tree stands for.
-use Rattle.std.proofs.Common.{◌≡◌, true, false, List, None, ap, sym, subst, ◌∙◌}
+use Rattle.std.proofs.Common.{◌≡◌, true, false, List, None, ap, sym, ◌∙◌}
 use Rattle.trio_types.specs.declared.spec.Domain.{Domain}
 use Rattle.trio_types.specs.declared.spec.Item.{Item}
 use Rattle.trio_types.specs.declared.spec.Axiom.{Axiom}
@@ -9,7 +9,6 @@ use Rattle.trio_syntax.specs.declared.tree.SpecTree.{SpecTree}
 use Rattle.trio_syntax.specs.Shape.{is_formed}
 use Rattle.trio_limits.specs.Limits.{count_fault}
 use Rattle.trio_reader.specs.Erasure.{parts_of_tree, world_of_tree, claims_from}
-use Rattle.trio_reader.specs.Sound.{IsSound}
 use Rattle.trio_reader.proofs.Phases.{IsRanged, limit_is}
 use Rattle.trio_reader.proofs.WellFormed.{well_formed}
 

@@ -1,5 +1,5 @@
 -- The first fault of a tree is that of the first phase that finds one.
-use Rattle.std.proofs.Common.{◌≡◌, ℕ, Option, None, Some, ap, sym, ◌∙◌}
+use Rattle.std.proofs.Common.{◌≡◌, ℕ, Option, None, ap, sym, ◌∙◌}
 use Rattle.std.specs.Option.{option_map}
 use Rattle.trio_types.specs.declared.spec.Which.{Which}
 use Rattle.trio_syntax.specs.declared.tree.SpecTree.{SpecTree}

@@ -2,7 +2,6 @@
 use Rattle.std.specs.Prelude.{ℕ, Bool, List, [], ◌∷◌, ◌++◌, Option, None, Some, map, length, slice_get, zip}
 use Rattle.std.specs.List.{flat_map}
 use Rattle.std.specs.Option.{option_map}
-use Rattle.trio_base.specs.declared.operators.Rel.{Rel}
 use Rattle.trio_syntax.specs.declared.tree.Mention.{Mention}
 use Rattle.trio_syntax.specs.declared.tree.RefTree.{RefTree}
 use Rattle.trio_syntax.specs.declared.tree.RefTree.TheVariants as ref
@@ -16,7 +15,7 @@ use Rattle.trio_types.specs.Kinds.{Kind, Use, kind, kind_in, term_uses, in_role,
 use Rattle.trio_scope.specs.Places.{unless}
 use Rattle.trio_scope.specs.declared.walk.Role.{Role}
 use Rattle.trio_scope.specs.declared.walk.Role.TheVariants as role
-use Rattle.trio_scope.specs.Scope.{names_of_ref, refs_of}
+use Rattle.trio_scope.specs.Scope.{refs_of}
 use Rattle.trio_scope.specs.Gather.{Variable, Finding, places_in_claims}
 use Rattle.trio_reader.specs.Erasure.{domain_of, domains_of, sense_of, sense_term, sense_item, item_count, term_of, world_of_tree}
 

@@ -7,7 +7,7 @@ use std::test::Fail;
 fn each_phase_answers(rt: HostRuntime) {
     let rows: [(&str, Option<SpecFault>); 10] = [
         (
-            "time 3; domain n = -1..2; domain c = {r, s}; item p : bool; input q(c, n) : bool; item x : n; axiom a at 2 : all y : c (Until(q(y, x + 2 * 1 - 3) -> y = r, [p])); goal g : !p = true;",
+            "time 3; domain n = -1..2; domain c = {r, s}; item p : bool; input q(c, n) : bool; item x : n; axiom a at 2 : all y : c (all z : n (Until(q(y, z + 2 * 1 - 3) -> x < 2, [p]))); goal g : !p = true;",
             None,
         ),
         ("time 1; #", Some(SpecFault::Lex(8))),
@@ -19,7 +19,7 @@ fn each_phase_answers(rt: HostRuntime) {
         ),
         (
             "time 1; domain c = {r}; domain e = {s}; axiom a at 1 : r = s;",
-            Some(SpecFault::Kind(22)),
+            Some(SpecFault::Kind(23)),
         ),
         ("time 1; axiom a at 1 : true;", Some(SpecFault::Range(6))),
         (

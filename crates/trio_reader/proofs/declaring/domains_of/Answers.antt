@@ -1,7 +1,5 @@
 -- The answer to the goal of `domains_of`.
-use Rattle.std.proofs.Common.{◌≡◌, ◌+◌, List, [], ◌∷◌, ◌++◌, map, take, sym, ap, ◌∙◌}
-use Rattle.trio_types.specs.declared.spec.Domain.{Domain}
-use Rattle.trio_syntax.specs.declared.tree.DeclarationTree.{DeclarationTree}
+use Rattle.std.proofs.Common.{[], ◌∷◌, ◌++◌, map, ap, ◌∙◌}
 use Rattle.trio_scope.specs.Names.{domains_in}
 use Rattle.trio_scope.proofs.Statements.{domains_in-append}
 use Rattle.trio_reader.specs.Erasure.{bool_domain, domain_from}

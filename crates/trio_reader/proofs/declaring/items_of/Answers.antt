@@ -1,5 +1,5 @@
 -- The answer to the goal of `items_of`.
-use Rattle.std.proofs.Common.{◌≡◌, ◌+◌, List, [], ◌∷◌, ◌++◌, map, take, sym, ap, ◌∙◌}
+use Rattle.std.proofs.Common.{[], ◌∷◌, ◌++◌, map, ap, ◌∙◌}
 use Rattle.trio_scope.specs.Names.{items_in}
 use Rattle.trio_scope.proofs.Statements.{items_in-append}
 use Rattle.trio_reader.specs.Erasure.{item_from}

@@ -1,11 +1,11 @@
 -- The answers to the goals of `first_in_name`.
 use Rattle.std.proofs.Common.{sym, ap, ◌∙◌}
-use Rattle.trio_types.specs.Kinds.{has_kind, in_role, named}
+use Rattle.trio_types.specs.Kinds.{has_kind}
 use Rattle.trio_scope.specs.Gather.{variables_of}
 use Rattle.trio_reader.specs.declared.sense.Sense.TheVariants as sense
 use Rattle.trio_reader.specs.Erasure.{world_of_tree, domains_of}
 use Rattle.trio_reader.specs.Kinds.{item_use}
-use Rattle.trio_reader.proofs.KindLemmas.{wrong_name, uses-Var, uses-Value, uses-Read, kind-word}
+use Rattle.trio_reader.proofs.KindLemmas.{wrong_name, uses-Var, uses-Value, uses-Read}
 use Rattle.trio_reader.proofs.kinds.first_in_name.Goals as goal
 
 pub returns-in-Variable : goal.returns-in-Variable

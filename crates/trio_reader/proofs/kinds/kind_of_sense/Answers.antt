@@ -1,5 +1,5 @@
 -- The answers to the goals of `kind_of_sense`.
-use Rattle.std.proofs.Common.{[], ap, sym, ◌∙◌}
+use Rattle.std.proofs.Common.{[], sym, ◌∙◌}
 use Rattle.trio_scope.specs.Gather.{variables_of}
 use Rattle.trio_reader.specs.Erasure.{world_of_tree, domains_of}
 use Rattle.trio_reader.proofs.KindLemmas.{kind-word, kind-read}

@@ -1,9 +1,9 @@
 -- The answers to the goals of `kind_of_variable`.
-use Rattle.std.proofs.Common.{◌≡◌, ℕ, Option, None, Some, List, sym, ap, slice_get, map, ◌∙◌}
+use Rattle.std.proofs.Common.{Some, sym, ap, ◌∙◌}
 use Rattle.std.specs.Option.{option_map}
 use Rattle.trio_syntax.specs.declared.tree.SpecTree.{SpecTree}
 use Rattle.trio_scope.specs.declared.walk.Binder.{Binder}
-use Rattle.trio_scope.specs.Gather.{Variable, variables_of}
+use Rattle.trio_scope.specs.Gather.{variables_of}
 use Rattle.trio_reader.specs.Erasure.{world_of_tree, domain_of, domains_of}
 use Rattle.trio_reader.proofs.KindLemmas.{kind-no_variable, kind-variable, domain-at}
 use Rattle.trio_reader.proofs.kinds.kind_of_variable.Goals as goal

@@ -1,5 +1,5 @@
 -- The answer to the goal of `first_out_of_range`.
-use Rattle.std.proofs.Common.{◌++◌, ap, ◌∙◌}
+use Rattle.std.proofs.Common.{ap, ◌∙◌}
 use Rattle.std.specs.List.{flat_map}
 use Rattle.trio_syntax.specs.declared.tree.SpecTree.{SpecTree}
 use Rattle.trio_syntax.specs.declared.tree.ClaimTree.{ClaimTree}
