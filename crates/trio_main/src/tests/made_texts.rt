@@ -1,4 +1,4 @@
-//! Worked rows on specification texts that are made: cut short, with many brackets, and with as many instances as there may be.
+//! Worked rows on specification texts that are made: cut short, with many brackets, and with as many instances and items as there may be.
 use super::answer_is;
 use std::process::Abort;
 use std::test::Fail;
@@ -72,4 +72,17 @@ fn instances_at_their_limit(rt: HostRuntime) -> Result<(), Fail> {
     answer_is(&rt, text.as_str(), "0 true")?;
     text.push_str(" axiom C : true;")?;
     answer_is(&rt, text.as_str(), "4 refused spec limit instances 1000001")
+}
+
+#[test]
+fn items_at_their_limit(rt: HostRuntime) -> Result<(), Fail> {
+    let alloc = rt.alloc();
+    let mut text = String::from_str(alloc, "time 1;")?;
+    for number in 0_u32..256 {
+        let item = format!(in alloc; " item i{number} : bool;")?;
+        text.push_str(item.as_str())?;
+    }
+    answer_is(&rt, text.as_str(), "4 refused history missing i0")?;
+    text.push_str(" item j : bool;")?;
+    answer_is(&rt, text.as_str(), "4 refused spec limit items 257")
 }

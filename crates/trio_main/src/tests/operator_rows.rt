@@ -112,7 +112,7 @@ const OVER_P_AND_Q: [&str; 20] = [
 ];
 
 /// A specification, a history, and the answer of `check`.
-const WHOLE: [&str; 34] = [
+const WHOLE: [&str; 37] = [
     "time 4; item p : bool; axiom A : Alw(p); ~ p: 1 1 1 1\n ~ 0 true\n",
     "time 3; item p : bool; axiom A : p -> Futr(p, 1); ~ p: 0 1 1\n ~ 1 false A 2\n",
     "time 3; item p : bool; axiom B at 2 : p; axiom A : p; ~ p: 1 0 1\n ~ 1 false A 1\n",
@@ -122,6 +122,9 @@ const WHOLE: [&str; 34] = [
     "time 3; item p : bool; axiom A : Lasts(p, 0) & Lasts(p, 1) & !WithinF(p, 1); ~ p: 0 1 0\n ~ 0 true\n",
     "time 3; item p : bool; axiom A : Lasts_ii(p, 0); ~ p: 1 0 1\n ~ 1 false A 1\n",
     "time 1; axiom A : AlwF(false); axiom B : SomF(true); ~  ~ 1 false B 0\n",
+    "time 4; item p : bool; item q : bool; axiom A : Until(p, q); ~ p: 0 1 0 0\nq: 0 0 1 0\n ~ 1 false A 2\n",
+    "time 4; item p : bool; item q : bool; axiom A : Since(p, q); ~ p: 0 1 0 0\nq: 0 0 1 0\n ~ 1 false A 0\n",
+    "time 4; item p : bool; item q : bool; axiom A at 3 : !Until(p, q); axiom B at 2 : !Since(p, q); axiom C at 3 : Since(p, q); ~ p: 0 1 0 0\nq: 0 0 1 0\n ~ 0 true\n",
     "time 1; domain d = 0..2; item q(d) : bool; axiom A : ex x : d (q(x + 1)); axiom B : all x : d (!q(x + 3)); ~ q(0): 1\nq(1): 0\nq(2): 0\n ~ 1 false A 0\n",
     "time 1; domain d = 0..2; item q(d) : bool; axiom A : ex x : d (q(x + 1)); axiom B : all x : d (!q(x + 3)); ~ q(0): 1\nq(1): 0\nq(2): 1\n ~ 0 true\n",
     "time 1; domain d = -1..1; item s : d; axiom A : all x : d (ex y : d (x + y = 0)); ~ s: 0\n ~ 0 true\n",
