@@ -1,7 +1,8 @@
 -- Texts that close each bracket that they open, and the most brackets that are open in them.
-use Rattle.std.proofs.Common.{◌≡◌, ℕ, zero, suc, ◌+◌, ◌-◌, ◌≤◌, max, Bool, true, false, if◌then◌else◌, List, [], ◌∷◌, ◌++◌, length, map, take, fold, refl, sym, ap, ◌∙◌, arith}
+use Rattle.std.proofs.Common.{◌≡◌, ℕ, zero, suc, ◌+◌, ◌-◌, ◌≤◌, max, Bool, true, false, if◌then◌else◌, List, [], ◌∷◌, ◌++◌, length, map, take, fold, refl, ap, ◌∙◌, arith}
 use Rattle.std.specs.List.{list_all, flat_map, range_with_len}
 use Rattle.std.proofs.lemmas.Bool.{and_parts, false≢true}
+use Rattle.std.proofs.lemmas.Grind.{flat_map-append}
 use Rattle.std.proofs.lemmas.List.Sums.{fold-append}
 use Rattle.trio_text.specs.declared.lexeme.Lexeme.{Lexeme}
 use Rattle.trio_text.specs.declared.lexeme.Lexeme.TheVariants as lexeme
@@ -72,10 +73,7 @@ unfolding open_behind
 none_above text n nests k = omega (arith, peak_at 0 (lexemes_in text) k, nests.most 0)
 
 lexemes_both : (x y : List Piece) → lexemes_in (x ++ y) ≡ lexemes_in x ++ lexemes_in y
-lexemes_both [] y = refl
-lexemes_both (token t ∷ x) y = ap (λ ts. t ∷ ts) (lexemes_both x y)
-lexemes_both (blank ∷ x) y = lexemes_both x y
-lexemes_both (line_end ∷ x) y = lexemes_both x y
+lexemes_both x y = flat_map-append _ x y
 
 pub as_many : {x : List Piece} {m n : ℕ} → m ≡ n → Nests x m → Nests x n
 as_many {m = m} same nests = record { closed = nests.closed; most = λ a. nests.most a ∙ ap (λ k. a + k) same }
@@ -87,12 +85,12 @@ empty = record { closed = λ a. refl; most = λ a. omega arith }
 pub both : {x y : List Piece} {m n : ℕ} → Nests x m → Nests y n → Nests (x ++ y) (max m n)
 both {x = x} {y = y} {m = m} {n = n} first second = record {
   closed = λ a. ap (fold open_after a) (lexemes_both x y) ∙ fold-append open_after a (lexemes_in x) (lexemes_in y)
-    ∙ ap (λ b. fold open_after b (lexemes_in y)) (first.closed a) ∙ second.closed a;
+      ∙ ap (λ b. fold open_after b (lexemes_in y)) (first.closed a) ∙ second.closed a;
   most = λ a.
-    let whole : peak a (lexemes_in (x ++ y)) ≡ max (peak a (lexemes_in x)) (peak (fold open_after a (lexemes_in x)) (lexemes_in y)) =
+      let whole : peak a (lexemes_in (x ++ y)) ≡ max (peak a (lexemes_in x)) (peak (fold open_after a (lexemes_in x)) (lexemes_in y)) =
       ap (peak a) (lexemes_both x y) ∙ peak-append a (lexemes_in x) (lexemes_in y) in
-    let rest : peak (fold open_after a (lexemes_in x)) (lexemes_in y) ≡ peak a (lexemes_in y) = ap (λ b. peak b (lexemes_in y)) (first.closed a) in
-    omega (arith, whole, rest, first.most a, second.most a);
+      let rest : peak (fold open_after a (lexemes_in x)) (lexemes_in y) ≡ peak a (lexemes_in y) = ap (λ b. peak b (lexemes_in y)) (first.closed a) in
+      omega (arith, whole, rest, first.most a, second.most a);
 }
 
 pub before : {x y : List Piece} {n : ℕ} → Nests x 0 → Nests y n → Nests (x ++ y) n
@@ -111,15 +109,15 @@ enclosed : (l r : Lexeme) → ((a : ℕ) → open_after a l ≡ a + 1) → ((a :
 unfolding peak
 enclosed l r opens closes x n nests = record {
   closed = λ a.
-    ap (fold open_after (open_after a l)) (lexemes_both x (token r ∷ []))
-    ∙ fold-append open_after (open_after a l) (lexemes_in x) (r ∷ [])
-    ∙ ap (λ b. open_after b r) (nests.closed (open_after a l)) ∙ closes (open_after a l) ∙ ap (λ b. b - 1) (opens a) ∙ omega arith;
+      ap (fold open_after (open_after a l)) (lexemes_both x (token r ∷ []))
+      ∙ fold-append open_after (open_after a l) (lexemes_in x) (r ∷ [])
+      ∙ ap (λ b. open_after b r) (nests.closed (open_after a l)) ∙ closes (open_after a l) ∙ ap (λ b. b - 1) (opens a) ∙ omega arith;
   most = λ a.
-    let b : ℕ = open_after a l in
-    let parts : peak b (lexemes_in (x ++ token r ∷ [])) ≡ max (peak b (lexemes_in x)) (peak (fold open_after b (lexemes_in x)) (r ∷ [])) =
+      let b : ℕ = open_after a l in
+      let parts : peak b (lexemes_in (x ++ token r ∷ [])) ≡ max (peak b (lexemes_in x)) (peak (fold open_after b (lexemes_in x)) (r ∷ [])) =
       ap (peak b) (lexemes_both x (token r ∷ [])) ∙ peak-append b (lexemes_in x) (r ∷ []) in
-    let last : peak (fold open_after b (lexemes_in x)) (r ∷ []) ≡ max b (open_after b r) = ap (λ c. max c (open_after c r)) (nests.closed b) in
-    omega (arith, parts, last, nests.most b, opens a, closes b);
+      let last : peak (fold open_after b (lexemes_in x)) (r ∷ []) ≡ max b (open_after b r) = ap (λ c. max c (open_after c r)) (nests.closed b) in
+      omega (arith, parts, last, nests.most b, opens a, closes b);
 }
 
 pub round : {x : List Piece} {n : ℕ} → Nests x n → Nests (in_round x) (1 + n)

@@ -1,1 +1,4 @@
 pub mod BracketsOpen
+pub mod BracketsTerms
+pub mod BracketsFormulas
+pub mod BracketsSpec
