@@ -1,0 +1,5 @@
+mod SoundPhases
+mod SoundNumbers
+mod SoundRanges
+mod SoundTerms
+mod SoundKinds
