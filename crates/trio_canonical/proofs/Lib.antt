@@ -3,3 +3,4 @@ mod SoundNumbers
 mod SoundRanges
 mod SoundTerms
 mod SoundKinds
+mod SoundNames
