@@ -4,3 +4,8 @@ mod SoundRanges
 mod SoundTerms
 mod SoundKinds
 mod SoundNames
+mod SoundFindings
+mod SoundPlaces
+mod SoundOrder
+mod SoundKnown
+mod SoundTree
