@@ -1,6 +1,6 @@
 -- Where no kind in a tree is wrong, each name that it uses was declared before.
-use Rattle.std.proofs.Common.{◌≡◌, ℕ, ◌+◌, ◌<◌, ◌≤◌, Bool, true, false, not, ◌&&◌, ◌||◌, nat_lt, nat_le, List, [], ◌∷◌, ◌++◌, Option, None, Some, length, map, slice_get, position, find, cond, refl, sym, ap, ◌∙◌, arith}
-use Rattle.std.specs.List.{list_all, list_any, flat_map}
+use Rattle.std.proofs.Common.{◌≡◌, ℕ, ◌+◌, ◌<◌, ◌≤◌, Bool, true, false, not, nat_lt, nat_le, List, [], ◌∷◌, ◌++◌, Option, None, Some, length, map, slice_get, find, cond, refl, sym, ap, ◌∙◌, arith}
+use Rattle.std.specs.List.{list_all, flat_map}
 use Rattle.std.specs.Option.{option_map}
 use Rattle.std.specs.Str.{bytes_eq}
 use Rattle.std.proofs.lemmas.Bool.{and_parts, and_from, or_left, or_right, false≢true, ltb-true, lt-ltb, leb-true}
@@ -9,8 +9,7 @@ use Rattle.std.proofs.lemmas.List.Folds.{list_all-map, list_any_at}
 use Rattle.std.proofs.lemmas.List.Quantifiers.{position-Some}
 use Rattle.std.proofs.lemmas.Option.{slice_get_past, none-some, same_Some}
 use Rattle.trio_types.specs.declared.spec.Item.{Item}
-use Rattle.trio_types.specs.World.{World}
-use Rattle.trio_types.specs.Kinds.{Use, kind_in, is_right, is_arity, of_domain, has_kind, term_uses}
+use Rattle.trio_types.specs.Kinds.{kind_in, is_right, is_arity, of_domain, has_kind, term_uses}
 use Rattle.trio_types.specs.WellFormed.{kinds_are_right}
 use Rattle.trio_types.proofs.Lists.{all_right}
 use Rattle.trio_syntax.specs.declared.tree.Mention.{Mention}
@@ -31,19 +30,17 @@ use Rattle.trio_syntax.specs.declared.tree.SpecTree.{SpecTree}
 use Rattle.trio_scope.specs.declared.meaning.Meaning.{Meaning}
 use Rattle.trio_scope.specs.declared.meaning.Meaning.TheVariants as meaning
 use Rattle.trio_scope.specs.declared.meaning.Declared.{Declared}
-use Rattle.trio_scope.specs.declared.walk.Role.{Role}
 use Rattle.trio_scope.specs.Places.{unless}
 use Rattle.trio_scope.specs.Names.{Declaration, declaration, words_from, words_of, declared_from, declarations, domains_in, items_in, declared_of}
-use Rattle.trio_scope.specs.Gather.{Variable, Finding, places_in, places_in_claims}
-use Rattle.trio_scope.specs.Scope.{is_variable, stands_before, is_known, unknown_among, own_names, names_at, names_of_ref, unknown_finding, refs_of, unknown_places}
-use Rattle.trio_reader.specs.declared.sense.Sense.{Sense}
+use Rattle.trio_scope.specs.Gather.{Variable, places_in, places_in_claims}
+use Rattle.trio_scope.specs.Scope.{is_variable, stands_before, is_known, unknown_among, own_names, names_of_ref, unknown_finding, refs_of, unknown_places}
 use Rattle.trio_reader.specs.declared.sense.Sense.TheVariants as sense
 use Rattle.trio_reader.specs.Erasure.{meaning_of, domain_count, item_count, domain_meant, domain_of, domains_of, level_in, sense_in, sense_of, sense_term, sense_item, domain_from, item_from, world_of_tree, parts_of_tree}
-use Rattle.trio_reader.specs.Kinds.{placed, wrong_places, role_uses, kind_of, name_uses, item_use, read_uses, shape_uses, own_uses, ref_uses, kind_finding}
+use Rattle.trio_reader.specs.Kinds.{placed, wrong_places, role_uses, kind_of, item_use, shape_uses, own_uses, ref_uses, kind_finding}
 use Rattle.trio_reader.proofs.KindLemmas.{uses-Read}
 use Rattle.trio_reader.proofs.FormedPhases.{append_empty, unless_empty}
-use Rattle.trio_reader.proofs.FormedTerms.{no_wrong, one_right, placed_right}
-use Rattle.trio_canonical.proofs.SoundPhases.{both_empty, passes, all_empty}
+use Rattle.trio_reader.proofs.FormedTerms.{all_both, no_wrong, one_right, placed_right}
+use Rattle.trio_canonical.proofs.SoundPhases.{both_empty, passes}
 use Rattle.trio_canonical.proofs.SoundKinds.{kinds_clean}
 use Rattle.trio_canonical.proofs.SoundFindings.{Follows, formula_follows}
 use Rattle.trio_canonical.proofs.SoundNames.{in_order}
@@ -86,11 +83,6 @@ module _ (bound : ℕ) where
   abbrev statement_passes : Declaration → Bool
   statement_passes x = statement_before bound x.declared
 
-  two_pass : (p : Declaration → Bool) (xs ys : List Declaration) → list_all p xs ≡ true → list_all p ys ≡ true → list_all p (xs ++ ys) ≡ true
-  two_pass p [] ys first second = second
-  two_pass p (x ∷ xs) ys first second =
-      let both = and_parts (p x) (list_all p xs) first in and_from (p x) (list_all p (xs ++ ys)) both.0 (two_pass p xs ys both.1 second)
-
   words_no_domain : (domain index : ℕ) (ws : List Mention) → list_all domain_passes (words_from domain index ws) ≡ true
   words_no_domain domain index [] = refl
   words_no_domain domain index (w ∷ ws) = words_no_domain domain (index + 1) ws
@@ -111,7 +103,7 @@ module _ (bound : ℕ) where
       let own = and_parts (nat_lt d.name.place bound) (all_before bound (words_in d.values)) both.0 in
       let later : List Declaration = declared_from (domains + 1) items (in_order ds is) in
       and_from (nat_lt d.name.place bound) (list_all domain_passes (words_of domains d.values ++ later)) own.0
-      (two_pass domain_passes (words_of domains d.values) later (values_no_domain domains d.values) (domains_first (domains + 1) items ds is both.1))
+      (all_both domain_passes (words_of domains d.values) later (values_no_domain domains d.values) (domains_first (domains + 1) items ds is both.1))
 
   words_first : (domain index : ℕ) (ws : List Mention) → all_before bound ws ≡ true → list_all statement_passes (words_from domain index ws) ≡ true
   words_first domain index [] all = refl
@@ -131,7 +123,7 @@ module _ (bound : ℕ) where
       let own = and_parts (nat_lt d.name.place bound) (all_before bound (words_in d.values)) both.0 in
       let later : List Declaration = declared_from (domains + 1) items rest in
       and_from (nat_lt d.name.place bound) (list_all statement_passes (words_of domains d.values ++ later)) own.0
-      (two_pass statement_passes (words_of domains d.values) later (values_first domains d.values own.1) (statements_first (domains + 1) items rest both.1))
+      (all_both statement_passes (words_of domains d.values) later (values_first domains d.values own.1) (statements_first (domains + 1) items rest both.1))
   statements_first domains items (statement.Item i ∷ rest) all =
       let both = and_parts (all_before bound (i.name ∷ [])) (list_all (λ w. all_before bound (names_declared w)) rest) all in
       and_from (nat_lt i.name.place bound) (list_all statement_passes (declared_from domains (items + 1) rest))
@@ -289,14 +281,14 @@ module _ (tree : SpecTree) where
     all_domains : list_all (λ (x : Declaration). domain_before rises.middle x.declared) ds ≡ true
     unfolding declarations
     all_domains =
-        two_pass 0 (λ (x : Declaration). domain_before rises.middle x.declared) (declared_from 1 0 tree.declarations) _
+        all_both (λ (x : Declaration). domain_before rises.middle x.declared) (declared_from 1 0 tree.declarations) _
         (ap (λ w. list_all (λ (x : Declaration). domain_before rises.middle x.declared) (declared_from 1 0 w)) order ∙ domains_first rises.middle 1 0 doms is rises.domains)
         (claims_pass rises.middle tree.claims).0
 
     all_statements : list_all (λ (x : Declaration). statement_before rises.last x.declared) ds ≡ true
     unfolding declarations
     all_statements =
-        two_pass 0 (λ (x : Declaration). statement_before rises.last x.declared) (declared_from 1 0 tree.declarations) _
+        all_both (λ (x : Declaration). statement_before rises.last x.declared) (declared_from 1 0 tree.declarations) _
         (statements_first rises.last 1 0 tree.declarations
         (ap (list_all (λ w. all_before rises.last (names_declared w))) order ∙ rises.statements))
         (claims_pass rises.last tree.claims).1

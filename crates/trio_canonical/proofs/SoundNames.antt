@@ -10,7 +10,7 @@ use Rattle.trio_types.specs.declared.spec.Axiom.{Axiom}
 use Rattle.trio_types.specs.declared.formula.Formula.{Formula}
 use Rattle.trio_types.specs.Names.{words_of as words_of_kind, names_of_domain, declared_names, are_distinct, is_new, variables_are_new}
 use Rattle.trio_types.specs.WellFormed.{names_are_distinct, variables_are_distinct}
-use Rattle.trio_types.proofs.Lists.{list_any-map, any_same, map-map}
+use Rattle.trio_types.proofs.Lists.{list_any-map, any_same}
 use Rattle.trio_types.proofs.NamesAt.{variables_are_new-Not, variables_are_new-And, variables_are_new-Or, variables_are_new-Implies, variables_are_new-Iff, variables_are_new-All, variables_are_new-Ex, variables_are_new-One, variables_are_new-Far, variables_are_new-Pair}
 use Rattle.trio_syntax.specs.declared.tree.Quantifier.{Quantifier}
 use Rattle.trio_syntax.specs.declared.tree.Quantifier.TheVariants as quantifier
@@ -54,7 +54,7 @@ one_less (x ∷ front) rest n is =
     let q = or_parts (bytes_eq x n) (list_any (bytes_eq x) rest) p.1 in (
       rw (same_names n x, q.0, later.0) refl,
       and_from (not (list_any (bytes_eq x) (front ++ rest))) (are_distinct (front ++ rest))
-      (not_from_false (list_any (bytes_eq x) (front ++ rest)) (list_any-append (bytes_eq x) front rest ∙ rw (p.0, q.1) refl)) later.1,
+          (not_from_false (list_any (bytes_eq x) (front ++ rest)) (list_any-append (bytes_eq x) front rest ∙ rw (p.0, q.1) refl)) later.1,
     )
 
 one_more : (front rest : List (List ℕ)) (n : List ℕ) → list_any (bytes_eq n) (front ++ rest) ≡ false → are_distinct (front ++ rest) ≡ true →

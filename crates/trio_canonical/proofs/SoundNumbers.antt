@@ -1,5 +1,5 @@
 -- Where no number is large, no number of a tree is out of range.
-use Rattle.std.proofs.Common.{◌≡◌, ℕ, Bool, true, false, nat_le, if◌then◌else◌, List, [], ◌∷◌, ◌++◌, map, refl, sym, ap, ◌∙◌}
+use Rattle.std.proofs.Common.{◌≡◌, ℕ, Bool, true, false, nat_le, List, [], ◌∷◌, ◌++◌, map, refl, sym, ap, ◌∙◌}
 use Rattle.std.specs.List.{list_all, flat_map}
 use Rattle.std.proofs.lemmas.Bool.{and_parts}
 use Rattle.trio_base.specs.declared.limits.TheConstants.{GREATEST_NUMBER}
@@ -19,7 +19,6 @@ use Rattle.trio_syntax.specs.declared.tree.TermShape.{TermShape, out-TermShape}
 use Rattle.trio_syntax.specs.declared.tree.TermShape.TheVariants as shape
 use Rattle.trio_syntax.specs.declared.tree.PartTree.{PartTree, out-PartTree}
 use Rattle.trio_syntax.specs.declared.tree.FormulaTree.{FormulaTree}
-use Rattle.trio_syntax.specs.declared.tree.ClaimTree.{ClaimTree}
 use Rattle.trio_syntax.specs.declared.tree.SpecTree.{SpecTree}
 use Rattle.trio_scope.specs.declared.walk.Role.{Role}
 use Rattle.trio_scope.specs.declared.walk.Role.TheVariants as role
@@ -83,18 +82,18 @@ module _ (tree : SpecTree) where
         let below = sym (ap (λ x. small (numbers_in x)) (shape-Call tree e m args) ∙ ap small (numbers_in-Read _ (map (λ t. term_of tree t e) args))) ∙ all in (
           ap (λ s. flat_map if_large (own_numbers s)) (shape.outs-Call m args),
           in-Call range_finding e inside m args
-          ∙ each_empty (λ t. CleanShape (out-TermTree t).shape) (λ t. places_in_term range_finding t e role.Argument true)
-          (λ t. small (numbers_in (term_of tree t e))) (λ t is yes. of_term t is e role.Argument true yes) args each
-          (small_each numbers_in (λ t. term_of tree t e) args below),
+              ∙ each_empty (λ t. CleanShape (out-TermTree t).shape) (λ t. places_in_term range_finding t e role.Argument true)
+              (λ t. small (numbers_in (term_of tree t e))) (λ t is yes. of_term t is e role.Argument true yes) args each
+              (small_each numbers_in (λ t. term_of tree t e) args below),
         );
     at_sum = λ parts each e inside all.
         let below = sym (ap (λ x. small (numbers_in x)) (shape-Sum tree e parts) ∙ ap small (numbers_in-Sum (map (λ p. part_from tree p e) parts))) ∙ all in (
           ap (λ s. flat_map if_large (own_numbers s)) (shape.outs-Sum parts),
           in-Sum range_finding e inside parts
-          ∙ each_empty (λ p. CleanShape (term_in p)) (λ p. places_in_term range_finding (out-PartTree p).term e role.Part inside)
-          (λ p. small (numbers_in (out-SignedTerm (part_from tree p e)).term))
-          (λ p is yes. of_term (out-PartTree p).term is e role.Part inside (sym (ap small (part_numbers e p)) ∙ yes)) parts each
-          (small_each (λ (p : SignedTerm). numbers_in (out-SignedTerm p).term) (λ p. part_from tree p e) parts below),
+              ∙ each_empty (λ p. CleanShape (term_in p)) (λ p. places_in_term range_finding (out-PartTree p).term e role.Part inside)
+              (λ p. small (numbers_in (out-SignedTerm (part_from tree p e)).term))
+              (λ p is yes. of_term (out-PartTree p).term is e role.Part inside (sym (ap small (part_numbers e p)) ∙ yes)) parts each
+              (small_each (λ (p : SignedTerm). numbers_in (out-SignedTerm p).term) (λ p. part_from tree p e) parts below),
         );
     at_times = λ n t is e inside all.
         let own = sym (ap (λ x. small (numbers_in x)) (shape-Times tree e n t) ∙ ap small (numbers_in-Times n.number (term_of tree t e))) ∙ all in

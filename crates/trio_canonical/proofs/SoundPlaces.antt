@@ -1,5 +1,5 @@
 -- The places of names in a tree that was read: those of a declaration or a claim stand among its own tokens.
-use Rattle.std.proofs.Common.{◌≡◌, ℕ, zero, suc, ◌+◌, ◌<◌, ◌≤◌, ◌⊎◌, inl, inr, Bool, true, false, nat_lt, nat_le, List, [], ◌∷◌, ◌++◌, length, length-append, map, refl, sym, ap, subst, ◌∙◌, arith, Option, None, Some}
+use Rattle.std.proofs.Common.{◌≡◌, ℕ, zero, suc, ◌+◌, ◌<◌, ◌≤◌, ◌⊎◌, inl, inr, Bool, true, false, nat_lt, nat_le, List, [], ◌∷◌, ◌++◌, length, length-append, refl, sym, ap, subst, ◌∙◌, arith, Option, Some}
 use Rattle.std.specs.List.{list_all, flat_map}
 use Rattle.std.proofs.lemmas.Bool.{and_from, lt-ltb, le-leb}
 use Rattle.std.proofs.lemmas.Grind.{flat_map-append}
@@ -16,7 +16,6 @@ use Rattle.trio_syntax.specs.declared.tree.PartTree.{PartTree, PartTree-F, out-P
 use Rattle.trio_syntax.specs.declared.tree.TermShape.{TermShape, out-TermShape}
 use Rattle.trio_syntax.specs.declared.tree.TermShape.TheVariants as s
 use Rattle.trio_syntax.specs.declared.tree.RefTree.{RefTree}
-use Rattle.trio_syntax.specs.declared.tree.RefTree.TheVariants as ref_to
 use Rattle.trio_syntax.specs.declared.tree.FormulaTree.{FormulaTree}
 use Rattle.trio_syntax.specs.declared.tree.FormulaTree.TheVariants as v
 use Rattle.trio_syntax.specs.declared.tree.ValuesTree.{ValuesTree}
@@ -25,7 +24,7 @@ use Rattle.trio_syntax.specs.declared.tree.DeclarationTree.{DeclarationTree}
 use Rattle.trio_syntax.specs.declared.tree.DeclarationTree.TheVariants as declared
 use Rattle.trio_syntax.specs.declared.tree.ClaimTree.{ClaimTree}
 use Rattle.trio_syntax.specs.Reading.{Language}
-use Rattle.trio_syntax.specs.Forms.{Sort, Meaning, token_of, relation, adding, arrow, Row, formula, disj, conj, unary, primary, term, summand, factor, basic, Tree, Form, empty, one, row, seq, either, many, Many, none, more, Under}
+use Rattle.trio_syntax.specs.Forms.{Meaning, relation, adding, arrow, Row, formula, disj, conj, unary, primary, term, summand, factor, basic, Tree, Form, empty, one, row, seq, either, many, Many, none, more, Under}
 use Rattle.trio_syntax.specs.Grammar.{a, a_sign, a_name, behind, round, listed, optional, body, rows_within, sum, product, named, compared, and_of, or_of, arrowed, connected, arguments, ref, bound, distant, paired, domain_values, domain, refs, item, claim}
 use Rattle.trio_scope.specs.declared.walk.Role.{Role}
 use Rattle.trio_scope.specs.declared.walk.Role.TheVariants as role

@@ -1,5 +1,5 @@
 -- Where all that a term uses is right, no kind in it is wrong.
-use Rattle.std.proofs.Common.{◌≡◌, ℕ, Bool, true, ◌&&◌, if◌then◌else◌, List, [], ◌∷◌, ◌++◌, Option, None, Some, length, map, slice_get, refl, sym, ap, ◌∙◌}
+use Rattle.std.proofs.Common.{◌≡◌, ℕ, Bool, true, ◌&&◌, List, [], ◌∷◌, ◌++◌, Option, length, map, slice_get, refl, sym, ap, ◌∙◌}
 use Rattle.std.specs.List.{flat_map, list_all, zip}
 use Rattle.std.specs.Option.{option_map}
 use Rattle.std.proofs.lemmas.Bool.{and_parts, and_from}
@@ -26,7 +26,7 @@ use Rattle.trio_scope.proofs.Gathers.{in-term, in-Number, in-Truth, in-Named, in
 use Rattle.trio_reader.specs.Erasure.{domains_of, world_of_tree, shape_of, term_of, part_from, sense_of, sense_term, sense_item, item_count}
 use Rattle.trio_reader.specs.Kinds.{Placed, placed, wrong_places, kind_of, role_uses, args_of, argument_use, item_use, shape_uses, own_uses, kind_finding}
 use Rattle.trio_reader.proofs.Erased.{term-shape, shape-Named, shape-Call, shape-Sum, shape-Times}
-use Rattle.trio_reader.proofs.FormedCases.{Each, TermCases, every_shape, term_in}
+use Rattle.trio_reader.proofs.FormedCases.{TermCases, every_shape, term_in}
 use Rattle.trio_reader.proofs.FormedNumbers.{flat_all_of}
 use Rattle.trio_reader.proofs.FormedTerms.{all_both, placed_right}
 use Rattle.trio_canonical.proofs.SoundPhases.{both_empty, passes, each_empty, all_empty}
@@ -37,11 +37,6 @@ none_wrong us all = all_empty (λ (u : Placed). unless (is_right u.use_) u.place
 
 pub one_placed : (p : ℕ) (u : Use) → is_right u ≡ true → list_all placed_right (placed p u ∷ []) ≡ true
 one_placed p u is = and_from (is_right u) true is refl
-
--- the arguments of an item, by the text and by its parts
-same_arguments : (o : Option Item) → args_of o ≡ arguments_of o
-same_arguments None = refl
-same_arguments (Some item) = refl
 
 -- two tests of each element
 all_and : {X : Type 0} (p q : X → Bool) (xs : List X) → list_all p xs ≡ true → list_all q xs ≡ true → list_all (λ x. p x && q x) xs ≡ true
@@ -105,8 +100,8 @@ module _ (tree : SpecTree) where
         (ap (λ s. list_all placed_right (shape_uses tree e inside s)) (shape.outs-Truth b), in-Truth (kind_finding tree) e inside b);
     at_named = λ m e inside all. (
       ap (λ s. list_all placed_right (shape_uses tree e inside s)) (shape.outs-Named m)
-      ∙ list_all-map placed_right (placed m.place) (term_uses world (domains_of tree e) inside (sense_term (sense_of tree e m.name)))
-      ∙ sym (ap (uses_right e inside) (shape-Named tree e m)) ∙ all,
+          ∙ list_all-map placed_right (placed m.place) (term_uses world (domains_of tree e) inside (sense_term (sense_of tree e m.name)))
+          ∙ sym (ap (uses_right e inside) (shape-Named tree e m)) ∙ all,
       in-Named (kind_finding tree) e inside m,
     );
     at_call = λ m args each e inside all.
@@ -123,14 +118,13 @@ module _ (tree : SpecTree) where
         ∙ ap (λ hs. list_all is_right (of_item inside (option_map (λ (item : Item). length item.args) o) (length hs)
         ∷ argument_uses world (arguments_of o) hs ++ flat_map (λ (g : Gathered). g.uses true) hs)) same) ∙ all) in (
           ap (λ s. list_all placed_right (shape_uses tree e inside s)) (shape.outs-Call m args)
-          ∙ and_from (is_right (item_use tree inside n (length args))) (list_all placed_right (map (argument_use tree e) (zip (args_of o) args)))
-          (sym (ap (λ k. is_right (item_use tree inside n k)) (length-map args (gathered_of e))) ∙ read.0)
-          (ap (λ ds. list_all placed_right (map (argument_use tree e) (zip ds args))) (same_arguments o)
-          ∙ arguments_placed e (arguments_of o) args (all_left is_right own below read.1)),
+              ∙ and_from (is_right (item_use tree inside n (length args))) (list_all placed_right (map (argument_use tree e) (zip (args_of o) args)))
+              (sym (ap (λ k. is_right (item_use tree inside n k)) (length-map args (gathered_of e))) ∙ read.0)
+              (arguments_placed e (arguments_of o) args (all_left is_right own below read.1)),
           in-Call (kind_finding tree) e inside m args
-          ∙ each_empty (λ t. ShapeRight (out-TermTree t).shape) (λ t. places_in_term (kind_finding tree) t e role.Argument true)
-          (λ t. uses_right e true (term_of tree t e)) (λ t is yes. of_term t is e role.Argument true refl yes) args each
-          (sym (flat_all_of is_right (λ (g : Gathered). g.uses true) (gathered_of e) args) ∙ all_right is_right own below read.1),
+              ∙ each_empty (λ t. ShapeRight (out-TermTree t).shape) (λ t. places_in_term (kind_finding tree) t e role.Argument true)
+              (λ t. uses_right e true (term_of tree t e)) (λ t is yes. of_term t is e role.Argument true refl yes) args each
+              (sym (flat_all_of is_right (λ (g : Gathered). g.uses true) (gathered_of e) args) ∙ all_right is_right own below read.1),
         );
     at_sum = λ ps each e inside all.
         let of_part : PartTree → Gathered = λ p. gathered_of e (out-PartTree p).term in
@@ -142,15 +136,15 @@ module _ (tree : SpecTree) where
         ∙ ap (λ hs. list_all is_right (map (λ (g : Gathered). in_role part g.kind) hs ++ flat_map (λ (g : Gathered). g.uses inside) hs)) (signed_parts e ps)) ∙ all in (
           ap (λ s. list_all placed_right (shape_uses tree e inside s)) (shape.outs-Sum ps),
           in-Sum (kind_finding tree) e inside ps
-          ∙ each_empty (λ p. ShapeRight (term_in p)) (λ p. places_in_term (kind_finding tree) (out-PartTree p).term e role.Part inside)
-          (λ p. is_right (in_role part (of_part p).kind) && list_all is_right ((of_part p).uses inside))
-          (λ p is yes. let b = and_parts (is_right (in_role part (of_part p).kind)) (list_all is_right ((of_part p).uses inside)) yes in
-          of_term (out-PartTree p).term is e role.Part inside
-          (one_placed (out-TermTree (out-PartTree p).term).place (in_role part (of_part p).kind) b.0) b.1) ps each
-          (all_and (λ p. is_right (in_role part (of_part p).kind)) (λ p. list_all is_right ((of_part p).uses inside)) ps
-          (sym (list_all-map is_right (λ (g : Gathered). in_role part g.kind) gs ∙ list_all-map (λ (g : Gathered). is_right (in_role part g.kind)) of_part ps)
-          ∙ all_left is_right kinds below right)
-          (sym (flat_all_of is_right (λ (g : Gathered). g.uses inside) of_part ps) ∙ all_right is_right kinds below right)),
+              ∙ each_empty (λ p. ShapeRight (term_in p)) (λ p. places_in_term (kind_finding tree) (out-PartTree p).term e role.Part inside)
+              (λ p. is_right (in_role part (of_part p).kind) && list_all is_right ((of_part p).uses inside))
+              (λ p is yes. let b = and_parts (is_right (in_role part (of_part p).kind)) (list_all is_right ((of_part p).uses inside)) yes in
+              of_term (out-PartTree p).term is e role.Part inside
+              (one_placed (out-TermTree (out-PartTree p).term).place (in_role part (of_part p).kind) b.0) b.1) ps each
+              (all_and (λ p. is_right (in_role part (of_part p).kind)) (λ p. list_all is_right ((of_part p).uses inside)) ps
+              (sym (list_all-map is_right (λ (g : Gathered). in_role part g.kind) gs ∙ list_all-map (λ (g : Gathered). is_right (in_role part g.kind)) of_part ps)
+              ∙ all_left is_right kinds below right)
+              (sym (flat_all_of is_right (λ (g : Gathered). g.uses inside) of_part ps) ∙ all_right is_right kinds below right)),
         );
     at_times = λ n t is e inside all.
         let both = and_parts (is_right (in_role part (kind_of tree e t))) (uses_right e inside (term_of tree t e))
@@ -158,7 +152,7 @@ module _ (tree : SpecTree) where
         ∙ ap (λ (g : Gathered). list_all is_right (g.uses inside)) (gathered-Times world (domains_of tree e) n.number (term_of tree t e))) ∙ all) in (
           ap (λ s. list_all placed_right (shape_uses tree e inside s)) (shape.outs-Times n t),
           in-Times (kind_finding tree) e inside n t
-          ∙ of_term t is e role.Factor inside (one_placed (out-TermTree t).place (in_role part (kind_of tree e t)) both.0) both.1,
+              ∙ of_term t is e role.Factor inside (one_placed (out-TermTree t).place (in_role part (kind_of tree e t)) both.0) both.1,
         );
   }
 

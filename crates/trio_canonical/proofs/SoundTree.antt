@@ -1,5 +1,5 @@
 -- A tree that was read and stands for the parts of a well-formed specification has no fault.
-use Rattle.std.proofs.Common.{◌≡◌, true, List, [], None, sym, ap, ◌∙◌}
+use Rattle.std.proofs.Common.{◌≡◌, true, List, None, ap, ◌∙◌}
 use Rattle.trio_text.specs.declared.lexeme.Lexeme.{Lexeme}
 use Rattle.trio_types.specs.Parts.{Parts}
 use Rattle.trio_types.specs.WellFormed.{is_well_formed}
