@@ -9,3 +9,5 @@ pub mod Answered
 mod PrintedLines
 mod PrintedValues
 mod Whole
+mod LinePieces
+mod Written

@@ -1,5 +1,5 @@
 -- A text of pieces that stand apart has exactly the tokens that were printed.
-use Rattle.std.proofs.Common.{◌≡◌, ℕ, ◌+◌, Bool, true, false, not, ◌&&◌, ◌||◌, nat_eq, List, [], ◌∷◌, ◌++◌, length, drop, Some, refl, sym, ap, subst, ◌∙◌, arith, append_assoc, length-append, leb-true}
+use Rattle.std.proofs.Common.{◌≡◌, ℕ, ◌+◌, Bool, true, false, not, ◌&&◌, ◌||◌, nat_eq, List, [], ◌∷◌, ◌++◌, length, drop, map, Some, refl, sym, ap, subst, ◌∙◌, arith, append_assoc, length-append, leb-true}
 use Rattle.std.specs.Prelude.{decimal}
 use Rattle.std.specs.List.{list_all, starts_with}
 use Rattle.std.proofs.lemmas.Bool.{false≢true}
@@ -165,6 +165,18 @@ pieces_behind x [] met spaced = tt
 pieces_behind x (token y ∷ ps) met spaced = token_behind x y (text_of ps) met (and_left (is_lexeme y) _ spaced)
 pieces_behind x (blank ∷ ps) met spaced = blank_behind x (text_of ps)
 pieces_behind x (line_end ∷ ps) met spaced = line_end_behind x (text_of ps)
+
+-- ---- the lexemes among pieces
+
+pub lexemes-append : (x y : List Piece) → lexemes_in (x ++ y) ≡ lexemes_in x ++ lexemes_in y
+lexemes-append [] y = refl
+lexemes-append (token t ∷ x) y = ap (λ ts. t ∷ ts) (lexemes-append x y)
+lexemes-append (blank ∷ x) y = lexemes-append x y
+lexemes-append (line_end ∷ x) y = lexemes-append x y
+
+pub lexemes-tokens : (xs : List Lexeme) → lexemes_in (map token xs) ≡ xs
+lexemes-tokens [] = refl
+lexemes-tokens (x ∷ xs) = ap (λ ts. x ∷ ts) (lexemes-tokens xs)
 
 -- ---- the whole text
 
