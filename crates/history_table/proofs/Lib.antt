@@ -11,3 +11,5 @@ mod PrintedValues
 mod Whole
 mod LinePieces
 mod Written
+mod KnownNames
+mod PrintedRows
