@@ -124,7 +124,7 @@ rows_fit w lines n (row ∷ rows) sound none =
           ∙ and_from _ _ (cells_below w row.item row.args (instants_of w) (option_and_then (λ placed. placed.line) (find (names w row) lines))) more.1,
     )
 
-same_Ok : {A E : Type 0} (x y : A) → ◌≡◌ {A = Result A E} (Ok x) (Ok y) → x ≡ y
+pub same_Ok : {A E : Type 0} (x y : A) → ◌≡◌ {A = Result A E} (Ok x) (Ok y) → x ≡ y
 same_Ok x y e = cc
 
 -- a history fits

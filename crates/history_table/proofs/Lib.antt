@@ -13,3 +13,4 @@ mod LinePieces
 mod Written
 mod KnownNames
 mod PrintedRows
+mod PrintedHistory

@@ -14,12 +14,12 @@ use Rattle.trio_types.specs.declared.spec.DomainKind.TheVariants as kind
 use Rattle.trio_types.specs.declared.spec.Domain.{Domain}
 use Rattle.trio_types.specs.World.{World}
 use Rattle.trio_types.specs.Cells.{Row}
-use Rattle.trio_print.specs.Pieces.{Piece, token, line_end, piece_text, text_of}
+use Rattle.trio_print.specs.Pieces.{token, line_end, piece_text, text_of}
 use Rattle.history_table.specs.declared.line.Value.{Value}
 use Rattle.history_table.specs.declared.line.Value.TheVariants as written
 use Rattle.history_table.specs.declared.line.Line.{Line}
 use Rattle.history_table.specs.Spelled.{value_tokens, entry_tokens, more_tokens, args_tokens}
-use Rattle.history_table.specs.Printed.{text_in, text_in_domain, value_text, values_text, args_text, name_of_item, row_name}
+use Rattle.history_table.specs.Printed.{text_in, text_in_domain, value_text, values_text, args_text, name_of_item}
 use Rattle.history_table.specs.Rows.{args_of}
 use Rattle.history_table.specs.Texts.{value_domain, entry_text, entry_behind_blank, line_text, lines_text}
 use Rattle.history_table.proofs.LinePieces.{entry_pieces, behind_args, line_front, line_pieces}
