@@ -89,11 +89,11 @@ cells_below w item args [] None = refl
 cells_below w item args (i ∷ is) None = refl
 cells_below w item args is (Some line) = entries_below w item args is line.entries
 
-row_length : (w : World) (r : Row) → length (cells_of_row w r) ≡ w.instants
+pub row_length : (w : World) (r : Row) → length (cells_of_row w r) ≡ w.instants
 unfolding instants_of
 row_length w r = length-map (instants_of w) (the_cell r.item r.args) ∙ length-range_with_len 0 w.instants
 
-zip-append : {A B : Type 0} (xs us : List A) (ys vs : List B) → length xs ≡ length ys → zip (xs ++ us) (ys ++ vs) ≡ zip xs ys ++ zip us vs
+pub zip-append : {A B : Type 0} (xs us : List A) (ys vs : List B) → length xs ≡ length ys → zip (xs ++ us) (ys ++ vs) ≡ zip xs ys ++ zip us vs
 zip-append [] us [] vs same = refl
 zip-append [] us (y ∷ ys) vs same = absurd (omega (arith, same))
 zip-append (x ∷ xs) us [] vs same = absurd (omega (arith, same))
@@ -124,7 +124,7 @@ rows_fit w lines n (row ∷ rows) sound none =
           ∙ and_from _ _ (cells_below w row.item row.args (instants_of w) (option_and_then (λ placed. placed.line) (find (names w row) lines))) more.1,
     )
 
-same_Ok : {A E : Type 0} (x y : A) → ◌≡◌ {A = Result A E} (Ok x) (Ok y) → x ≡ y
+pub same_Ok : {A E : Type 0} (x y : A) → ◌≡◌ {A = Result A E} (Ok x) (Ok y) → x ≡ y
 same_Ok x y e = cc
 
 -- a history fits

@@ -6,3 +6,4 @@ pub mod Decoding
 pub mod Fitting
 pub mod Printed
 pub mod Texts
+pub mod PrintedLaws

@@ -15,7 +15,10 @@ mod texts;
 
 pub use fault::HistFault;
 pub use given::Given;
-pub use laws::{text_has_a_history_or_a_fault, text_has_one_history};
+pub use laws::{
+    printed_history_is_that_history, printed_table_is_that_table, text_has_a_history_or_a_fault,
+    text_has_one_history,
+};
 pub use line::{Line, Lines, Value, Values};
 pub use printing::row_name;
 pub use reader::read_history;

@@ -1,0 +1,4 @@
+-- The lemmas of the crate.
+pub mod Numbers
+pub mod Spaced
+pub mod Printed
