@@ -1,2 +1,4 @@
 pub mod Told
-mod Texts
+pub mod Texts
+pub mod Inductions
+pub mod Meant
