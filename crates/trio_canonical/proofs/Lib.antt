@@ -2,3 +2,5 @@ pub mod Told
 pub mod Texts
 pub mod Inductions
 pub mod Meant
+pub mod TermStands
+pub mod TermTexts

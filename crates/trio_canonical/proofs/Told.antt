@@ -79,10 +79,10 @@ pub each_map : {X : Type 0} (P Q : X → Type 0) → ((x : X) → P x → Q x) �
 each_map P Q give [] each = tt
 each_map P Q give (x ∷ xs) each = (give x each.0, each_map P Q give xs each.1)
 
-told_none : {A : Type 0} {g : Form A} {S : List A → Type 0} → S [] → Told (many g) S []
+pub told_none : {A : Type 0} {g : Form A} {S : List A → Type 0} → S [] → Told (many g) S []
 told_none good = record { at = λ p. record { value = []; says = says_none p; good = good } }
 
-told_more : {A : Type 0} {g : Form A} {P : A → Type 0} {Q S : List A → Type 0} {x y : List Lexeme} → ((v : A) (vs : List A) → P v → Q vs → S (v ∷ vs)) →
+pub told_more : {A : Type 0} {g : Form A} {P : A → Type 0} {Q S : List A → Type 0} {x y : List Lexeme} → ((v : A) (vs : List A) → P v → Q vs → S (v ∷ vs)) →
     Told g P x → Told (many g) Q y → Told (many g) S (x ++ y)
 told_more {x = x} give first second = record {
   at = λ p.
