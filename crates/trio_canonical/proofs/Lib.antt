@@ -4,3 +4,5 @@ pub mod Inductions
 pub mod Meant
 pub mod TermStands
 pub mod TermTexts
+pub mod FormulaStands
+pub mod FormulaTexts
