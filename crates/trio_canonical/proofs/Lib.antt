@@ -6,3 +6,4 @@ pub mod TermStands
 pub mod TermTexts
 pub mod FormulaStands
 pub mod FormulaTexts
+pub mod StatementTexts
