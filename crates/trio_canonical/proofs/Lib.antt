@@ -7,3 +7,5 @@ pub mod TermTexts
 pub mod FormulaStands
 pub mod FormulaTexts
 pub mod StatementTexts
+pub mod CanonicalMeant
+pub mod CanonicalTree
