@@ -1,5 +1,5 @@
 -- What the names of a specification mean in the tree of its canonical text.
-use Rattle.std.proofs.Common.{◌≡◌, ℕ, zero, suc, ◌+◌, ◌<◌, Bool, true, false, not, ◌==◌, List, [], ◌∷◌, ◌++◌, map, drop, length, find, cond, Option, None, Some, slice_get, slice_index_or, refl, sym, ap, subst, ◌∙◌, arith}
+use Rattle.std.proofs.Common.{◌≡◌, ℕ, zero, suc, ◌+◌, Bool, true, false, not, ◌==◌, List, [], ◌∷◌, ◌++◌, map, drop, length, find, Some, slice_get, slice_index_or, refl, sym, ap, subst, ◌∙◌, arith}
 use Rattle.std.specs.List.{list_any, flat_map}
 use Rattle.std.specs.Option.{option_map}
 use Rattle.std.specs.Str.{bytes_eq}
@@ -7,7 +7,6 @@ use Rattle.std.proofs.lemmas.Bool.{false≢true, and_parts, not-true, cond-true,
 use Rattle.std.proofs.lemmas.Slice.Eq.{bytes_eq-Decides}
 use Rattle.std.proofs.lemmas.List.{append_assoc, map-append}
 use Rattle.std.proofs.lemmas.Option.{none-some, same_Some, slice_get-map, slice_get-get_or}
-use Rattle.trio_types.specs.declared.spec.DomainKind.{DomainKind}
 use Rattle.trio_types.specs.declared.spec.DomainKind.TheVariants as kind
 use Rattle.trio_types.specs.declared.spec.Domain.{Domain}
 use Rattle.trio_types.specs.declared.spec.Item.{Item}
@@ -25,12 +24,11 @@ use Rattle.trio_syntax.specs.declared.tree.DeclarationTree.{DeclarationTree}
 use Rattle.trio_syntax.specs.declared.tree.DeclarationTree.TheVariants as statement
 use Rattle.trio_syntax.specs.declared.tree.ClaimTree.{ClaimTree}
 use Rattle.trio_syntax.specs.declared.tree.SpecTree.{SpecTree}
-use Rattle.trio_scope.specs.declared.meaning.Meaning.{Meaning}
 use Rattle.trio_scope.specs.declared.meaning.Meaning.TheVariants as meaning
 use Rattle.trio_scope.specs.Names.{Declaration, declaration, words_from, words_of, declared_from, declarations, declared_of}
 use Rattle.trio_reader.specs.Erasure.{values_kind, domain_from, meaning_of}
-use Rattle.trio_canonical.proofs.Told.{Pairwise, Split}
-use Rattle.trio_canonical.proofs.Meant.{BoolFirst, bool_first, IsMeant, Meant}
+use Rattle.trio_canonical.proofs.Told.{Pairwise}
+use Rattle.trio_canonical.proofs.Meant.{bool_first, IsMeant, Meant}
 use Rattle.trio_canonical.proofs.StatementTexts.{DomainStands, ItemStands, ClaimStands, SpecStands}
 
 -- the trees of domains, and those of items
@@ -151,9 +149,11 @@ in_domain : (n m : ℕ) (ds : List DomainTree) (is_ : List ItemTree) (j : ℕ) (
     slice_get (own (n + j) t) i ≡ Some d → StandsAmong d (declared_from n m (stated ds is_))
 in_domain n m [] is_ j t at i d here = absurd (none-some t at)
 in_domain n m (x ∷ ds) is_ zero t at i d here =
-    let e : n + 0 ≡ n = omega arith in
-    (i, get_left (own n x) (declared_from (n + 1) m (stated ds is_)) i d
-    (ap (λ (x : DomainTree). slice_get (own n x) i) (same_Some x t at) ∙ ap (λ n. slice_get (own n t) i) (sym e) ∙ here))
+    let e : n + 0 ≡ n = omega arith in (
+      i,
+      get_left (own n x) (declared_from (n + 1) m (stated ds is_)) i d
+          (ap (λ (x : DomainTree). slice_get (own n x) i) (same_Some x t at) ∙ ap (λ n. slice_get (own n t) i) (sym e) ∙ here),
+    )
 in_domain n m (x ∷ ds) is_ (suc j) t at i d here =
     let e : (n + 1) + j ≡ n + suc j = omega arith in
     let there = in_domain (n + 1) m ds is_ j t at i d (ap (λ n. slice_get (own n t) i) e ∙ here) in

@@ -1,10 +1,9 @@
 -- The canonical text of a specification has a tree in the grammar that stands for that specification.
-use Rattle.std.proofs.Common.{◌≡◌, ℕ, Bool, true, false, not, if◌then◌else◌, cond, List, [], ◌∷◌, ◌++◌, map, drop, filter, refl, sym, ap, subst, ◌∙◌}
+use Rattle.std.proofs.Common.{◌≡◌, Bool, true, false, not, if◌then◌else◌, cond, List, [], ◌∷◌, ◌++◌, map, drop, filter, refl, sym, ap, ◌∙◌}
 use Rattle.std.specs.List.{list_all, flat_map}
 use Rattle.std.proofs.lemmas.Bool.{and_parts, and_from}
 use Rattle.std.proofs.lemmas.List.{append-nil, map-append}
 use Rattle.std.proofs.lemmas.List.Elements.{filter-append}
-use Rattle.trio_types.specs.declared.spec.Domain.{Domain}
 use Rattle.trio_types.specs.declared.spec.Item.{Item}
 use Rattle.trio_types.specs.declared.spec.Axiom.{Axiom}
 use Rattle.trio_types.specs.Parts.{Parts, world_of_parts, claims_of}
@@ -25,9 +24,9 @@ use Rattle.trio_reader.proofs.FormedNumbers.{flat_all}
 use Rattle.trio_print.specs.Pieces.{lexemes_in}
 use Rattle.trio_print.specs.Canonical.{spec_pieces}
 use Rattle.trio_canonical.proofs.Told.{Pairwise}
-use Rattle.trio_canonical.proofs.Meant.{BoolFirst, bool_first, Meant, Fits}
-use Rattle.trio_canonical.proofs.StatementTexts.{ItemStands, ClaimStands, SpecStands, spec_told}
-use Rattle.trio_canonical.proofs.CanonicalMeant.{DomainTrees, ItemTrees, IsItem, stated, domains_of_tree, items_of_tree, declared_is, meant}
+use Rattle.trio_canonical.proofs.Meant.{bool_first, Meant, Fits}
+use Rattle.trio_canonical.proofs.StatementTexts.{ClaimStands, SpecStands, spec_told}
+use Rattle.trio_canonical.proofs.CanonicalMeant.{IsItem, stated, domains_of_tree, items_of_tree, declared_is, meant}
 
 -- the declarations of a tree are first those of domains and then those of items, and its claims are first axioms and then goals
 pub record InOrder (tree : SpecTree) : Type 0 where
@@ -61,14 +60,14 @@ stated_items (d ∷ ds) is_ = stated_items ds is_
 
 items_same : (parts : Parts) (tree : SpecTree) → Meant parts tree → (is_ : List Item) (ts : List ItemTree) → Pairwise (IsItem parts) is_ ts →
     list_all is_right (flat_map (item_uses (world_of_parts parts)) is_) ≡ true → map (item_from tree) ts ≡ is_
-items_same parts tree meant [] [] pairs right = refl
-items_same parts tree meant [] (t ∷ ts) pairs right = absurd pairs
-items_same parts tree meant (i ∷ is_) [] pairs right = absurd pairs
-items_same parts tree meant (i ∷ is_) (t ∷ ts) pairs right =
+items_same parts tree known [] [] pairs right = refl
+items_same parts tree known [] (t ∷ ts) pairs right = absurd pairs
+items_same parts tree known (i ∷ is_) [] pairs right = absurd pairs
+items_same parts tree known (i ∷ is_) (t ∷ ts) pairs right =
     let first = all_left is_right (item_uses (world_of_parts parts) i) (flat_map (item_uses (world_of_parts parts)) is_) right in
     let others = all_right is_right (item_uses (world_of_parts parts) i) (flat_map (item_uses (world_of_parts parts)) is_) right in
-    let own : item_from tree t ≡ i = ap (item_from tree) (sym pairs.0.same) ∙ pairs.0.stands.same tree meant first in
-    let rest = items_same parts tree meant is_ ts pairs.1 others in
+    let own : item_from tree t ≡ i = ap (item_from tree) (sym pairs.0.same) ∙ pairs.0.stands.same tree known first in
+    let rest = items_same parts tree known is_ ts pairs.1 others in
     λ j. own j ∷ rest j
 
 -- axioms and goals
@@ -93,9 +92,9 @@ none_kept parts tree goal (c ∷ cs) (t ∷ ts) pairs =
     ∙ none_kept parts tree goal cs ts pairs.1
 
 fits_nothing : (parts : Parts) (tree : SpecTree) → Formed parts → Meant parts tree → Fits parts tree [] [] []
-fits_nothing parts tree formed meant = record {
+fits_nothing parts tree formed known = record {
   has_bool = formed.bool_first;
-  meant = meant;
+  meant = known;
   named = refl;
   distinct = ap are_distinct (append-nil (declared_names parts)) ∙ formed.distinct;
   as_many = refl;
@@ -139,8 +138,7 @@ module _ (parts : Parts) (formed : Formed parts) (tree : SpecTree) (stands : Spe
   uses_right : (of_items parts.items ≡ true) × (list_all (λ (c : Axiom). list_all is_right (uses (world_of_parts parts) c.formula [])) (claims_of parts) ≡ true)
   uses_right =
       let first = flat_map (item_uses (world_of_parts parts)) parts.items in
-      let second = flat_map (λ (c : Axiom). uses (world_of_parts parts) c.formula []) (claims_of parts) in
-      (
+      let second = flat_map (λ (c : Axiom). uses (world_of_parts parts) c.formula []) (claims_of parts) in (
         all_left is_right first second formed.kinds,
         sym (flat_all is_right (λ (c : Axiom). uses (world_of_parts parts) c.formula []) (claims_of parts)) ∙ all_right is_right first second formed.kinds,
       )

@@ -1,8 +1,7 @@
 -- For which formulas the trees of canonical texts stand.
-use Rattle.std.proofs.Common.{◌≡◌, ℕ, Bool, true, false, ◌&&◌, ◌==◌, if◌then◌else◌, List, [], ◌∷◌, ◌++◌, map, Option, None, Some, slice_get, refl, sym, ap, subst, ◌∙◌}
+use Rattle.std.proofs.Common.{◌≡◌, ℕ, Bool, true, false, ◌&&◌, ◌==◌, List, [], ◌∷◌, ◌++◌, map, slice_get, refl, sym, ap, subst, ◌∙◌}
 use Rattle.std.specs.List.{list_all, flat_map}
-use Rattle.std.proofs.Math.Logic.{⊎_elim}
-use Rattle.std.proofs.lemmas.Bool.{false≢true, and_parts, eqb-true, cases_Bool}
+use Rattle.std.proofs.lemmas.Bool.{false≢true, and_parts, eqb-true}
 use Rattle.std.proofs.lemmas.List.{append_assoc}
 use Rattle.trio_base.specs.declared.operators.Rel.{Rel}
 use Rattle.trio_base.specs.declared.operators.OneOp.{OneOp}
@@ -30,7 +29,7 @@ use Rattle.trio_syntax.specs.declared.tree.FormulaTree.TheVariants as trees
 use Rattle.trio_syntax.specs.declared.tree.SpecTree.{SpecTree}
 use Rattle.trio_syntax.specs.Grammar.{and_of, or_of}
 use Rattle.trio_scope.specs.Gather.{Variable}
-use Rattle.trio_reader.specs.Erasure.{term_of, formula_of, domain_of, domain_meant, domain_count, quantified}
+use Rattle.trio_reader.specs.Erasure.{formula_of, domain_of, quantified}
 use Rattle.trio_reader.proofs.Erased.{formula-Lone, formula-Compare, formula-Not, formula-And, formula-Or, formula-Implies, formula-Iff, formula-Quantified, formula-One, formula-Far, formula-Pair}
 use Rattle.trio_print.specs.Canonical.{domain_name}
 use Rattle.trio_canonical.proofs.Told.{Pairwise}

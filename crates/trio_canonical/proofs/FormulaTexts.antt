@@ -1,5 +1,5 @@
 -- The canonical text of a formula is a text of the rows of formulas, and its tree stands for the formula.
-use Rattle.std.proofs.Common.{◌≡◌, ℕ, Bool, true, false, ◌&&◌, ◌==◌, if◌then◌else◌, List, [], ◌∷◌, ◌++◌, map, Option, None, Some, slice_get, refl, sym, ap, subst, ◌∙◌}
+use Rattle.std.proofs.Common.{◌≡◌, ℕ, Bool, true, false, ◌==◌, if◌then◌else◌, List, [], ◌∷◌, ◌++◌, map, Option, None, Some, slice_get, refl, sym, ap, subst, ◌∙◌}
 use Rattle.std.specs.List.{list_all, flat_map}
 use Rattle.std.proofs.Math.Logic.{⊎_elim}
 use Rattle.std.proofs.lemmas.Bool.{and_parts, cases_Bool, false≢true}
@@ -27,10 +27,10 @@ use Rattle.trio_syntax.specs.declared.tree.Mention.{Mention}
 use Rattle.trio_syntax.specs.declared.tree.TermTree.{TermTree}
 use Rattle.trio_syntax.specs.declared.tree.FormulaTree.{FormulaTree}
 use Rattle.trio_syntax.specs.Words.{rel_sign, one_word, far_word, pair_word, arrow_sign, quantifier_word}
-use Rattle.trio_syntax.specs.Forms.{Form, seq, row, formula, disj, conj, unary, primary, term}
-use Rattle.trio_syntax.specs.Grammar.{ref, atom, quantified, one_operation, far_operation, pair_operation, and_of, or_of, arrowed, a_sign}
+use Rattle.trio_syntax.specs.Forms.{seq, row, formula, disj, conj, unary, primary, term}
+use Rattle.trio_syntax.specs.Grammar.{ref, atom, and_of, or_of, arrowed, a_sign}
 use Rattle.trio_print.specs.Pieces.{Piece, blank, lexemes_in}
-use Rattle.trio_print.specs.Canonical.{Printed, FormulaText, formula_text, text_of_formula, own_group, in_group, term_plain, text_of_term, many_text, quantified_text, joined, in_round, spaced, comma, sign, word_, name_, domain_name}
+use Rattle.trio_print.specs.Canonical.{Printed, FormulaText, formula_text, text_of_formula, own_group, in_group, term_plain, many_text, quantified_text, joined, in_round, spaced, comma, sign, word_, name_, domain_name}
 use Rattle.trio_print.specs.Canonical.{ref as ref_text}
 use Rattle.trio_reader.proofs.FormedCases.{Each}
 use Rattle.trio_reader.specs.Erasure.{quantified as quantified_formula}
@@ -38,7 +38,7 @@ use Rattle.trio_canonical.proofs.Told.{Told, told_text, told_map, told_empty, to
 use Rattle.trio_canonical.proofs.Texts.{lexemes-append, lexemes-round, lexemes-joined, text-Lone, text-Compare, text-Not, text-And, text-Or, text-Implies, text-Iff, text-All, text-Ex, text-One, text-Far, text-Pair}
 use Rattle.trio_canonical.proofs.Inductions.{FormulaCases, every_formula}
 use Rattle.trio_canonical.proofs.TermStands.{Stands}
-use Rattle.trio_canonical.proofs.TermTexts.{HasTexts, term_told, each_passing}
+use Rattle.trio_canonical.proofs.TermTexts.{term_told, each_passing}
 use Rattle.trio_canonical.proofs.FormulaStands.{StandsFor, RefStands, stands_bool, stands_named, stands_lone, stands_compare, stands_not, stands_and, stands_or, stands_implies, stands_iff, stands_quantified, stands_one, stands_far, stands_pair}
 
 -- a text of a lower row is one of a higher row

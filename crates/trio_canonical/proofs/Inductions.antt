@@ -1,5 +1,5 @@
 -- Induction over terms and formulas, form by form.
-use Rattle.std.proofs.Common.{◌≡◌, ℕ, List, [], ◌∷◌, map, sym, subst}
+use Rattle.std.proofs.Common.{ℕ, List, [], ◌∷◌, map, sym, subst}
 use denote.Hole.Holds.{Such}
 use Rattle.trio_base.specs.declared.operators.Rel.{Rel}
 use Rattle.trio_base.specs.declared.operators.OneOp.{OneOp}

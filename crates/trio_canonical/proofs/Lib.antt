@@ -1,11 +1,11 @@
-pub mod Told
-pub mod Texts
-pub mod Inductions
-pub mod Meant
-pub mod TermStands
-pub mod TermTexts
-pub mod FormulaStands
-pub mod FormulaTexts
-pub mod StatementTexts
-pub mod CanonicalMeant
-pub mod CanonicalTree
+mod Told
+mod Texts
+mod Inductions
+mod Meant
+mod TermStands
+mod TermTexts
+mod FormulaStands
+mod FormulaTexts
+mod StatementTexts
+mod CanonicalMeant
+mod CanonicalTree

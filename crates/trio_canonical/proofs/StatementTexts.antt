@@ -1,10 +1,9 @@
 -- The canonical text of a specification is a text of the grammar, and its statements stand for those of the specification.
-use Rattle.std.proofs.Common.{◌≡◌, ℕ, zero, suc, ℤ, pos, negsuc, neg_ℤ, ◌+◌, ◌<◌, Bool, true, false, nat_lt, nat_le, List, [], ◌∷◌, ◌++◌, map, drop, length, Option, None, Some, slice_get, refl, sym, ap, subst, ◌∙◌, add-one, arith}
+use Rattle.std.proofs.Common.{◌≡◌, ℕ, suc, ℤ, pos, negsuc, neg_ℤ, ◌+◌, ◌<◌, Bool, true, false, nat_lt, nat_le, List, [], ◌∷◌, ◌++◌, map, drop, length, Option, None, Some, slice_get, refl, sym, ap, subst, ◌∙◌, add-one, arith}
 use Rattle.std.specs.List.{list_all, flat_map}
 use Rattle.std.specs.Option.{option_map}
 use Rattle.std.proofs.lemmas.Bool.{and_parts, ltb-true}
 use Rattle.std.proofs.lemmas.List.{append_assoc, map-append}
-use Rattle.trio_text.specs.declared.lexeme.Lexeme.{Lexeme}
 use Rattle.trio_text.specs.declared.lexeme.Lexeme.TheVariants as lexeme
 use Rattle.trio_text.specs.declared.token.Reserved.TheVariants as word
 use Rattle.trio_text.specs.declared.token.Symbol.TheVariants as signs
@@ -13,21 +12,19 @@ use Rattle.trio_types.specs.declared.spec.DomainKind.TheVariants as kind
 use Rattle.trio_types.specs.declared.spec.Domain.{Domain}
 use Rattle.trio_types.specs.declared.spec.Item.{Item}
 use Rattle.trio_types.specs.declared.spec.Axiom.{Axiom}
-use Rattle.trio_types.specs.Parts.{Parts, world_of_parts, claims_of}
+use Rattle.trio_types.specs.Parts.{Parts, world_of_parts}
 use Rattle.trio_types.specs.Kinds.{has_kind, kind_in, of_domain, is_right, item_uses}
 use Rattle.trio_base.specs.declared.limits.TheConstants.{MOST_VALUES}
 use Rattle.trio_types.specs.World.{values_of}
 use Rattle.trio_types.specs.Shape.{is_shaped}
-use Rattle.trio_types.specs.WellFormed.{values_fit, domains_fit}
+use Rattle.trio_types.specs.WellFormed.{values_fit}
 use Rattle.trio_types.proofs.Lists.{each_of, all_left, all_right}
 use Rattle.trio_types.proofs.Specs.{Formed}
 use Rattle.trio_types.proofs.Domains.{length-integers}
 use Rattle.trio_syntax.specs.declared.tree.Mention.{Mention}
 use Rattle.trio_syntax.specs.declared.tree.Written.{Written}
 use Rattle.trio_syntax.specs.declared.tree.RefTree.{RefTree}
-use Rattle.trio_syntax.specs.declared.tree.IntTree.{IntTree}
 use Rattle.trio_syntax.specs.declared.tree.ValuesTree.{ValuesTree}
-use Rattle.trio_syntax.specs.declared.tree.ValuesTree.TheVariants as values
 use Rattle.trio_syntax.specs.declared.tree.DomainTree.{DomainTree}
 use Rattle.trio_syntax.specs.declared.tree.ItemTree.{ItemTree}
 use Rattle.trio_syntax.specs.declared.tree.DeclarationTree.{DeclarationTree}
@@ -35,16 +32,16 @@ use Rattle.trio_syntax.specs.declared.tree.DeclarationTree.TheVariants as statem
 use Rattle.trio_syntax.specs.declared.tree.ClaimTree.{ClaimTree}
 use Rattle.trio_syntax.specs.declared.tree.SpecTree.{SpecTree}
 use Rattle.trio_syntax.specs.Words.{item_word, claim_word}
-use Rattle.trio_syntax.specs.Grammar.{a_name, ref, refs, int, domain_values, domain, item, instant, claim, declarations, claims, spec}
-use Rattle.trio_syntax.specs.Forms.{either, many}
+use Rattle.trio_syntax.specs.Grammar.{a_name, ref, refs, int, domain_values, domain, item, instant, claim, spec}
+use Rattle.trio_syntax.specs.Forms.{either}
 use Rattle.trio_reader.specs.Erasure.{integer_of, values_kind, domain_from, item_from, domain_of}
 use Rattle.trio_reader.proofs.FormedCases.{Each}
-use Rattle.trio_print.specs.Pieces.{Piece, token, blank, line_end, lexemes_in}
-use Rattle.trio_print.specs.Canonical.{sign, word_, name_, number_, spaced, joined, comma, listed, integer, ended, values_text, domain_text, item_text, at_text, claim_text, spec_pieces, text_of_formula}
+use Rattle.trio_print.specs.Pieces.{Piece, line_end, lexemes_in}
+use Rattle.trio_print.specs.Canonical.{sign, name_, spaced, joined, comma, listed, integer, ended, values_text, domain_text, item_text, at_text, claim_text, spec_pieces, text_of_formula}
 use Rattle.trio_print.specs.Canonical.{ref as ref_text}
-use Rattle.trio_canonical.proofs.Told.{Told, told_text, told_map, told_empty, told_one, told_seq, told_left, told_right, told_both, told_behind, told_before, told_round, told_many, told_many_then, told_listed, Pairwise, Split, each_map}
+use Rattle.trio_canonical.proofs.Told.{Told, told_text, told_empty, told_one, told_seq, told_left, told_right, told_both, told_behind, told_before, told_round, told_many, told_many_then, told_listed, Pairwise, Split}
 use Rattle.trio_canonical.proofs.Texts.{lexemes-append, lexemes-round, lexemes-flat_map, lexemes-joined}
-use Rattle.trio_canonical.proofs.Meant.{BoolFirst, bool_first, Meant}
+use Rattle.trio_canonical.proofs.Meant.{bool_first, Meant}
 use Rattle.trio_canonical.proofs.FormulaStands.{StandsFor, RefStands}
 use Rattle.trio_canonical.proofs.FormulaTexts.{ref_told, formula_told}
 
@@ -252,8 +249,14 @@ spec_tokens parts =
     let g = flat_map (claim_text parts true) parts.goals in
     ap (λ z. lexeme.Word word.Time ∷ lexeme.Number parts.instants ∷ lexeme.Sign signs.Semi ∷ z)
     (lexemes-append (d ++ i ++ a) g
-    ∙ rw (lexemes-append (d ++ i) a, lexemes-append d i, lexemes-flat_map domain_text (drop 1 parts.domains), lexemes-flat_map (item_text parts) parts.items,
-    lexemes-flat_map (claim_text parts false) parts.axioms, lexemes-flat_map (claim_text parts true) parts.goals)
+    ∙ rw (
+      lexemes-append (d ++ i) a,
+      lexemes-append d i,
+      lexemes-flat_map domain_text (drop 1 parts.domains),
+      lexemes-flat_map (item_text parts) parts.items,
+      lexemes-flat_map (claim_text parts false) parts.axioms,
+      lexemes-flat_map (claim_text parts true) parts.goals,
+    )
     (append_assoc (flat_map (λ d. lexemes_in (domain_text d)) (drop 1 parts.domains) ++ flat_map (λ i. lexemes_in (item_text parts i)) parts.items)
     (flat_map (λ c. lexemes_in (claim_text parts false c)) parts.axioms) (flat_map (λ c. lexemes_in (claim_text parts true c)) parts.goals)))
 

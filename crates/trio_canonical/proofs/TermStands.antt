@@ -1,10 +1,10 @@
 -- For which terms the trees of canonical texts stand.
-use Rattle.std.proofs.Common.{◌≡◌, ℕ, ℤ, zero, suc, pos, ◌+◌, ◌<◌, ◌⊎◌, inl, inr, Bool, true, false, not, ◌&&◌, ◌==◌, nat_lt, if◌then◌else◌, List, [], ◌∷◌, ◌++◌, length, map, Option, None, Some, slice_get, slice_index_or, refl, sym, ap, subst, ◌∙◌, arith}
+use Rattle.std.proofs.Common.{◌≡◌, ℕ, zero, suc, ◌<◌, ◌⊎◌, inl, inr, Bool, true, false, not, ◌&&◌, ◌==◌, nat_lt, if◌then◌else◌, List, [], ◌∷◌, ◌++◌, length, map, Option, None, Some, slice_get, slice_index_or, refl, sym, ap, ◌∙◌, arith}
 use Rattle.std.specs.List.{list_all, flat_map}
 use Rattle.std.specs.Option.{option_map}
 use Rattle.std.proofs.Math.Logic.{⊎_elim}
-use Rattle.std.proofs.lemmas.Bool.{false≢true, and_parts, not-true, ltb-true, eqb-true}
-use Rattle.std.proofs.lemmas.Option.{none-some, same_Some, slice_get_within, slice_get-get_or}
+use Rattle.std.proofs.lemmas.Bool.{false≢true, and_parts, ltb-true, eqb-true}
+use Rattle.std.proofs.lemmas.Option.{same_Some, slice_get_within, slice_get-get_or}
 use Rattle.std.proofs.lemmas.List.Folds.{flat_map-map}
 use Rattle.trio_types.specs.declared.spec.DomainKind.{DomainKind}
 use Rattle.trio_types.specs.declared.spec.DomainKind.TheVariants as kind
@@ -12,30 +12,29 @@ use Rattle.trio_types.specs.declared.spec.Domain.{Domain}
 use Rattle.trio_types.specs.declared.spec.Item.{Item}
 use Rattle.trio_types.specs.declared.formula.Term.{Term}
 use Rattle.trio_types.specs.declared.formula.Term.TheVariants as term
-use Rattle.trio_types.specs.declared.formula.SignedTerm.{SignedTerm, out-SignedTerm, roll-SignedTerm}
+use Rattle.trio_types.specs.declared.formula.SignedTerm.{SignedTerm, out-SignedTerm}
 use Rattle.trio_types.specs.World.{World}
 use Rattle.trio_types.specs.Parts.{Parts, world_of_parts}
-use Rattle.trio_types.specs.Kinds.{Kind, no_kind, number, truth_value, word, has_kind, kind_in, kind_of_constant, kind_if_constant, Gathered, gathered, term_uses, is_right, is_arity, in_role, part, Use, argument_uses, args_of}
+use Rattle.trio_types.specs.Kinds.{Kind, no_kind, number, truth_value, word, has_kind, kind_of_constant, kind_if_constant, Gathered, gathered, term_uses, is_right, is_arity, in_role, part, Use, argument_uses, args_of}
 use Rattle.trio_types.specs.Shape.{makes_sum}
 use Rattle.trio_types.proofs.ShapeAt.{shape_of_part}
 use Rattle.trio_types.proofs.Lists.{all_left, all_right}
 use Rattle.trio_types.proofs.Domains.{length-integers}
-use Rattle.trio_types.proofs.KindsAt.{gathered-Number, gathered-Value, gathered-Var, gathered-Read, gathered-Sum, gathered-Times}
+use Rattle.trio_types.proofs.KindsAt.{gathered-Value, gathered-Var, gathered-Read, gathered-Sum, gathered-Times}
 use Rattle.trio_syntax.specs.declared.tree.Mention.{Mention}
 use Rattle.trio_syntax.specs.declared.tree.Written.{Written}
-use Rattle.trio_syntax.specs.declared.tree.TermTree.{TermTree, out-TermTree}
-use Rattle.trio_syntax.specs.declared.tree.TermShape.{TermShape}
+use Rattle.trio_syntax.specs.declared.tree.TermTree.{TermTree}
 use Rattle.trio_syntax.specs.declared.tree.TermShape.TheVariants as shape
-use Rattle.trio_syntax.specs.declared.tree.PartTree.{PartTree, out-PartTree}
+use Rattle.trio_syntax.specs.declared.tree.PartTree.{PartTree}
 use Rattle.trio_syntax.specs.declared.tree.SpecTree.{SpecTree}
-use Rattle.trio_syntax.specs.Grammar.{product, named, sum}
+use Rattle.trio_syntax.specs.Grammar.{named, sum}
 use Rattle.trio_scope.specs.Gather.{Variable}
 use Rattle.trio_reader.specs.declared.sense.Sense.TheVariants as sense
-use Rattle.trio_reader.specs.Erasure.{term_of, shape_of, part_from, sense_of, sense_in, sense_term, sense_item, item_count, meaning_of}
+use Rattle.trio_reader.specs.Erasure.{term_of, part_from, sense_of, sense_in, sense_term, item_count, meaning_of}
 use Rattle.trio_reader.proofs.Erased.{term-shape, shape-Number, shape-Truth, shape-Named, shape-Call, shape-Sum, shape-Times}
 use Rattle.trio_print.specs.Canonical.{item_name, word_name}
 use Rattle.trio_canonical.proofs.Told.{Pairwise}
-use Rattle.trio_canonical.proofs.Meant.{BoolFirst, bool_first, IsMeant, Fits, level_is, sense_is}
+use Rattle.trio_canonical.proofs.Meant.{BoolFirst, bool_first, Fits, level_is, sense_is}
 
 -- all that a term uses is right
 abbrev pub term_is_right : Parts → List ℕ → Bool → Term → Bool
@@ -70,10 +69,10 @@ module _ {parts : Parts} {names : List (List ℕ)} where
   }
 
 -- constants
-pub record IsConstant (w : World) (d v : ℕ) : Type 0 where
-  pub domain : Domain
-  pub at : slice_get w.domains d ≡ Some domain
-  pub fits : ((domain.kind ≡ kind.Bool) × (v < 2)) ⊎ ((words : List (List ℕ)) × (domain.kind ≡ kind.Words words) × (v < length words))
+record IsConstant (w : World) (d v : ℕ) : Type 0 where
+  domain : Domain
+  at : slice_get w.domains d ≡ Some domain
+  fits : ((domain.kind ≡ kind.Bool) × (v < 2)) ⊎ ((words : List (List ℕ)) × (domain.kind ≡ kind.Words words) × (v < length words))
 
 passes : (b : Bool) (k : Kind) → has_kind (kind_if_constant b k) ≡ true → b ≡ true
 passes true k has = refl
@@ -82,7 +81,7 @@ passes false number has = absurd (false≢true has)
 passes false truth_value has = absurd (false≢true has)
 passes false (word d) has = absurd (false≢true has)
 
-pub is_constant : (w : World) (d v : ℕ) → has_kind (kind_of_constant w d v) ≡ true → IsConstant w d v
+is_constant : (w : World) (d v : ℕ) → has_kind (kind_of_constant w d v) ≡ true → IsConstant w d v
 is_constant w d v has = by (slice_get w.domains d) refl
   where
     of_kind : (domain : Domain) (k : DomainKind) → slice_get w.domains d ≡ Some domain → domain.kind ≡ k → IsConstant w d v
@@ -101,13 +100,13 @@ is_constant w d v has = by (slice_get w.domains d) refl
     by (Some domain) is = of_kind domain domain.kind is refl
 
 -- domain 0 is `bool`, and no other
-pub first_domain : (parts : Parts) → BoolFirst parts.domains → (d : ℕ) (domain : Domain) → slice_get parts.domains d ≡ Some domain → (d == 0) ≡ true → domain.kind ≡ kind.Bool
+first_domain : (parts : Parts) → BoolFirst parts.domains → (d : ℕ) (domain : Domain) → slice_get parts.domains d ≡ Some domain → (d == 0) ≡ true → domain.kind ≡ kind.Bool
 first_domain parts b d domain at first =
     let zero_is : d ≡ 0 = eqb-true d 0 first in
     let e : Some b.first ≡ Some domain = sym (ap (λ ds. slice_get ds 0) b.whole) ∙ ap (slice_get parts.domains) (sym zero_is) ∙ at in
     ap (λ (d : Domain). d.kind) (sym (same_Some b.first domain e)) ∙ b.bool
 
-pub other_domain : (parts : Parts) → BoolFirst parts.domains → (d : ℕ) (domain : Domain) → slice_get parts.domains d ≡ Some domain → (d == 0) ≡ false → domain.kind ≡ kind.Bool → ⊥
+other_domain : (parts : Parts) → BoolFirst parts.domains → (d : ℕ) (domain : Domain) → slice_get parts.domains d ≡ Some domain → (d == 0) ≡ false → domain.kind ≡ kind.Bool → ⊥
 other_domain parts b zero domain at other is = false≢true (sym other)
 other_domain parts b (suc d) domain at other is = b.no_other d domain (sym (ap (λ ds. slice_get ds (suc d)) b.whole) ∙ at) is
 

@@ -1,5 +1,5 @@
 -- The canonical text of a term is a text of the rows of terms, and its tree stands for the term.
-use Rattle.std.proofs.Common.{◌≡◌, ℕ, Bool, true, false, ◌&&◌, ◌==◌, if◌then◌else◌, List, [], ◌∷◌, ◌++◌, map, Option, None, Some, slice_get, slice_index_or, refl, sym, ap, subst, ◌∙◌}
+use Rattle.std.proofs.Common.{◌≡◌, ℕ, Bool, true, false, ◌==◌, if◌then◌else◌, List, [], ◌∷◌, ◌++◌, map, Option, None, Some, slice_get, slice_index_or, refl, sym, ap, subst, ◌∙◌}
 use Rattle.std.specs.List.{list_all, flat_map}
 use Rattle.std.proofs.Math.Logic.{⊎_elim}
 use Rattle.std.proofs.lemmas.Bool.{and_parts, cases_Bool, false≢true}
@@ -25,9 +25,9 @@ use Rattle.trio_syntax.specs.Words.{adding_sign, truth_word}
 use Rattle.trio_syntax.specs.Forms.{Form, seq, row, adding, term, summand, factor, basic}
 use Rattle.trio_syntax.specs.Grammar.{a, signed, arguments}
 use Rattle.trio_print.specs.Pieces.{Piece, lexemes_in}
-use Rattle.trio_print.specs.Canonical.{Printed, TermText, term_text, text_of_term, same_text, sign, word_, name_, read_text, listed, comma, joined, in_square, sum_text, product_text, first_part, later_part, item_name, word_name, constant}
+use Rattle.trio_print.specs.Canonical.{Printed, TermText, term_text, text_of_term, same_text, sign, word_, name_, read_text, listed, comma, joined, in_square, sum_text, product_text, later_part, item_name, word_name, constant}
 use Rattle.trio_reader.proofs.FormedCases.{Each}
-use Rattle.trio_canonical.proofs.Told.{Told, told_text, told_map, told_empty, told_one, told_row, told_seq, told_left, told_right, told_both, told_before, told_none, told_many, told_listed, Pairwise, each_map}
+use Rattle.trio_canonical.proofs.Told.{Told, told_text, told_empty, told_one, told_row, told_seq, told_left, told_right, told_both, told_before, told_none, told_many, told_listed, Pairwise, each_map}
 use Rattle.trio_canonical.proofs.Texts.{lexemes-append, lexemes-round, lexemes-square, lexemes-flat_map, lexemes-joined, text_of_part, text-Number, text-Value, text-Var, text-Read, text-Sum, text-Times}
 use Rattle.trio_canonical.proofs.Inductions.{TermCases, every_term}
 use Rattle.trio_canonical.proofs.TermStands.{Stands, stands_shape, stands_number, stands_times, stands_truth, stands_word, stands_variable, stands_read, stands_sum, ArgumentsStand, PartStands}
@@ -140,7 +140,7 @@ module _ (parts : Parts) (names : List (List ℕ)) where
   parts_told [] each = tt
   parts_told (p ∷ ps) each = (
     told_seq {P = λ minus. minus ≡ (out-SignedTerm p).minus} {Q = Stands parts names (out-SignedTerm p).term} (λ place minus t is good. (is, good))
-    (told_one (out-SignedTerm p).minus (λ place. refl)) each.0,
+        (told_one (out-SignedTerm p).minus (λ place. refl)) each.0,
     parts_told ps each.1,
   )
 
