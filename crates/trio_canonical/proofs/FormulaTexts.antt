@@ -58,6 +58,9 @@ told_formula P {x} t =
     told_row formula (told_text (append-nil x)
     (told_seq {P = λ ts. P (or_of ts)} {Q = λ (o : Option (Bool × List FormulaTree)). o ≡ None} (λ p v o good none. rw (none) good) t (told_right (told_empty refl))))
 
+told_up : (P : FormulaTree → Type 0) {x : List Lexeme} → Told (row primary) P x → Told (row formula) P x
+told_up P t = told_formula P (told_disj P (told_conj P (told_unary t)))
+
 -- the texts of a formula, each as a text of its row
 pub record HasFormulaTexts (parts : Parts) (names : List (List ℕ)) (f : Formula) (t : FormulaText) : Type 0 where
   pub plain : Told (row formula) (StandsFor parts names f) (lexemes_in (t.plain names))
@@ -74,7 +77,7 @@ ref_told parts d =
 
 module _ (parts : Parts) (names : List (List ℕ)) where
   own_group_texts : (f : Formula) (t : Printed) → Told (row primary) (StandsFor parts names f) (lexemes_in (t names)) → HasFormulaTexts parts names f (own_group t)
-  own_group_texts f t told = record { plain = told_formula (StandsFor parts names f) (told_disj (StandsFor parts names f) (told_conj (StandsFor parts names f) (told_unary told))); grouped = told }
+  own_group_texts f t told = record { plain = told_up (StandsFor parts names f) told; grouped = told }
 
   in_group_texts : (f : Formula) (t : Printed) → Told (row formula) (StandsFor parts names f) (lexemes_in (t names)) → HasFormulaTexts parts names f (in_group t)
   in_group_texts f t told = record {
@@ -113,7 +116,7 @@ module _ (parts : Parts) (names : List (List ℕ)) where
   compare_texts : (r : Rel) (x y : Term) → term_is_shaped x ≡ true → term_is_shaped y ≡ true →
       HasFormulaTexts parts names (formulas.Compare r x y) (formula_text parts (open_formula.Compare r x y))
   compare_texts r x y one two =
-      let told = told_formula (StandsFor parts names (formulas.Compare r x y)) (told_disj (StandsFor parts names (formulas.Compare r x y)) (told_conj (StandsFor parts names (formulas.Compare r x y)) (told_unary (compare_told r x y (term_told parts x one names).plain (term_told parts y two names).plain)))) in
+      let told = told_up (StandsFor parts names (formulas.Compare r x y)) (compare_told r x y (term_told parts x one names).plain (term_told parts y two names).plain) in
       in_group_texts (formulas.Compare r x y) (λ names. term_plain parts x names ++ spaced (rel_sign r) ++ term_plain parts y names)
       (told_text (sym (lexemes-between (term_plain parts x names) (term_plain parts y names) (rel_sign r))) told)
 

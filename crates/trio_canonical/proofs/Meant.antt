@@ -5,7 +5,7 @@ use Rattle.std.specs.Str.{bytes_eq}
 use Rattle.std.proofs.lemmas.Bool.{false≢true, and_parts, and_from, or_parts, not-true, not_from_false, cond-true, cond-false}
 use Rattle.std.proofs.lemmas.Slice.Eq.{bytes_eq-Decides}
 use Rattle.std.proofs.lemmas.Iterator.Adapters.{position_from-zero}
-use Rattle.std.proofs.lemmas.List.{append_assoc, map-append}
+use Rattle.std.proofs.lemmas.List.{append_assoc, map-append, length_push}
 use Rattle.std.proofs.lemmas.List.Folds.{list_any-append}
 use Rattle.std.proofs.lemmas.Option.{none-some, same_Some}
 use Rattle.trio_types.specs.declared.spec.DomainKind.{DomainKind}
@@ -164,11 +164,5 @@ module _ {parts : Parts} {tree : SpecTree} {names : List (List ℕ)} {around : L
     named = map-append (λ (v : Variable). v.name) around (v ∷ []) ∙ ap (λ ns. ns ++ v.name ∷ []) fits.named;
     distinct = ap are_distinct (sym (append_assoc (declared_names parts) names (v.name ∷ [])))
         ∙ distinct_more (declared_names parts ++ names) v.name fits.distinct (not-true (list_any (bytes_eq v.name) (declared_names parts ++ names)) new);
-    as_many = longer vs names d v.name fits.as_many;
+    as_many = omega (arith, fits.as_many, length_push vs d, length_push names v.name);
   }
-    where
-      longer : {X Y : Type 0} (xs : List X) (ys : List Y) (x : X) (y : Y) → length xs ≡ length ys → length (xs ++ x ∷ []) ≡ length (ys ++ y ∷ [])
-      longer [] [] x y same = refl
-      longer [] (b ∷ bs) x y same = absurd (omega arith)
-      longer (a ∷ as_) [] x y same = absurd (omega arith)
-      longer (a ∷ as_) (b ∷ bs) x y same = let e : length (as_ ++ x ∷ []) ≡ length (bs ++ y ∷ []) = longer as_ bs x y (omega arith) in omega arith
