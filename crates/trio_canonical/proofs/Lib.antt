@@ -13,3 +13,14 @@ mod SoundPlaces
 mod SoundOrder
 mod SoundKnown
 mod SoundTree
+mod Told
+mod Texts
+mod Inductions
+mod Meant
+mod TermStands
+mod TermTexts
+mod FormulaStands
+mod FormulaTexts
+mod StatementTexts
+mod CanonicalMeant
+mod CanonicalTree
