@@ -1,7 +1,7 @@
-pub mod BracketsOpen
-pub mod BracketsTerms
-pub mod BracketsFormulas
-pub mod BracketsSpec
+mod BracketsOpen
+mod BracketsTerms
+mod BracketsFormulas
+mod BracketsSpec
 mod SoundPhases
 mod SoundNumbers
 mod SoundRanges
