@@ -1,0 +1,2 @@
+pub mod TextsAt
+mod Combining

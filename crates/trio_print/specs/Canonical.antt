@@ -1,7 +1,6 @@
 -- The canonical text of a specification: one statement a line, in the order time, domains, items, axioms, goals.
 use Rattle.std.specs.Prelude.{ℕ, ℤ, pos, negsuc, ◌+◌, ◌==◌, Bool, true, false, if◌then◌else◌, List, [], ◌∷◌, ◌++◌, Option, None, Some, map, drop, slice_get, slice_index_or}
 use Rattle.std.specs.List.{flat_map}
-use Rattle.trio_base.specs.declared.operators.Rel.{Rel}
 use Rattle.trio_text.specs.declared.lexeme.Lexeme.TheVariants as lexeme
 use Rattle.trio_text.specs.declared.token.Reserved.{Reserved}
 use Rattle.trio_text.specs.declared.token.Reserved.TheVariants as word
@@ -21,7 +20,7 @@ use Rattle.trio_types.specs.declared.formula.Formula.TheOpen.{Formula-F}
 use Rattle.trio_types.specs.declared.formula.Formula.TheOpen as open_formula
 use Rattle.trio_types.specs.declared.formula.Formula.TheFolds.{fold-Formula}
 use Rattle.trio_types.specs.Parts.{Parts}
-use Rattle.trio_syntax.specs.Words.{rel_sign, one_word, far_word, pair_word, arrow_sign, adding_sign, truth_word, item_word, claim_word}
+use Rattle.trio_syntax.specs.Words.{rel_sign, one_word, far_word, pair_word, adding_sign, truth_word, item_word, claim_word}
 use Rattle.trio_print.specs.Pieces.{Piece, token, blank, line_end}
 
 -- a symbol, a word, a name and a number
@@ -203,7 +202,7 @@ at_text (Some k) = blank ∷ word_ word.At ++ blank ∷ number_ k
 abbrev pub claim_text : Parts → Bool → Axiom → List Piece
 claim_text parts is_goal claim =
     ended (word_ (claim_word is_goal) ++ blank ∷ name_ claim.name ++ at_text claim.at ++ spaced symbol.Colon
-        ++ (text_of_formula parts claim.formula).plain [])
+    ++ (text_of_formula parts claim.formula).plain [])
 
 -- the canonical text; domain 0 is `bool` and needs no statement
 unfoldable pub spec_pieces : Parts → List Piece
