@@ -89,11 +89,11 @@ cells_below w item args [] None = refl
 cells_below w item args (i ∷ is) None = refl
 cells_below w item args is (Some line) = entries_below w item args is line.entries
 
-row_length : (w : World) (r : Row) → length (cells_of_row w r) ≡ w.instants
+pub row_length : (w : World) (r : Row) → length (cells_of_row w r) ≡ w.instants
 unfolding instants_of
 row_length w r = length-map (instants_of w) (the_cell r.item r.args) ∙ length-range_with_len 0 w.instants
 
-zip-append : {A B : Type 0} (xs us : List A) (ys vs : List B) → length xs ≡ length ys → zip (xs ++ us) (ys ++ vs) ≡ zip xs ys ++ zip us vs
+pub zip-append : {A B : Type 0} (xs us : List A) (ys vs : List B) → length xs ≡ length ys → zip (xs ++ us) (ys ++ vs) ≡ zip xs ys ++ zip us vs
 zip-append [] us [] vs same = refl
 zip-append [] us (y ∷ ys) vs same = absurd (omega (arith, same))
 zip-append (x ∷ xs) us [] vs same = absurd (omega (arith, same))

@@ -9,3 +9,7 @@ pub mod Answered
 mod PrintedLines
 mod PrintedValues
 mod Whole
+mod LinePieces
+mod Written
+mod KnownNames
+mod PrintedRows

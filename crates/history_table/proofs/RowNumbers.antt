@@ -110,7 +110,7 @@ value_index_small spec d v k inside is =
     omega (arith, within, few)
 
 -- what is looked for in a list of rows, and in the list of what they are
-position-map : {A B : Type 0} (f : A → B) (p : B → Bool) (xs : List A) → position p (map f xs) ≡ position (λ x. p (f x)) xs
+pub position-map : {A B : Type 0} (f : A → B) (p : B → Bool) (xs : List A) → position p (map f xs) ≡ position (λ x. p (f x)) xs
 position-map {A} {B} f p xs = ap₂ (λ k l. cond (nat_lt k l) (Some k) None) (go xs) (length-map xs f)
   where
     go : (ys : List A) → position_or_len p (map f ys) ≡ position_or_len (λ x. p (f x)) ys
