@@ -2,3 +2,5 @@
 pub mod Numbers
 pub mod Spaced
 pub mod Printed
+pub mod TextsAt
+mod Combining
