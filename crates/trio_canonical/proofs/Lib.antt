@@ -24,3 +24,4 @@ mod FormulaTexts
 mod StatementTexts
 mod CanonicalMeant
 mod CanonicalTree
+mod ReadAgain

@@ -14,3 +14,6 @@ canonical_text spec = text_of (spec_pieces (parts_of spec))
 pub record IsOnlyReading (spec : Spec) : Type 0 where
   pub reading : IsSpecText (canonical_text spec) spec
   pub only : (other : Spec) → IsSpecText (canonical_text spec) other → parts_of other ≡ parts_of spec
+
+abbrev pub CanonicalTextLaw : Type 0
+CanonicalTextLaw = (spec : Spec) → IsOnlyReading spec
