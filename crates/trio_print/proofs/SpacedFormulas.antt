@@ -168,25 +168,29 @@ spaced_or p xs vs names scope stands =
     at_variant p (formula.Or parts) (formula_text p (open_formula.Or texts)) names (text_of_formula-Or p parts)
     (record { plain = text; grouped = round_spaced (many_text symbol.Or texts names) text; group_apart = refl })
 
+-- two groups with an arrow between them
+arrow_spaced : (p : Parts) (s : Symbol) (whole x y : Formula) → SpacedAt p x → SpacedAt p y → (vs : List ℕ) (names : List (List ℕ)) → Scope vs names → Stands p whole vs →
+    uses (world_of_parts p) whole vs ≡ uses (world_of_parts p) x vs ++ uses (world_of_parts p) y vs → numbers_of whole ≡ numbers_of x ++ numbers_of y →
+    variables_of whole ≡ variables_of x ++ variables_of y →
+    are_spaced ((text_of_formula p x).grouped names ++ spaced s ++ (text_of_formula p y).grouped names) ≡ true
+unfolding SpacedAt
+arrow_spaced p s whole x y left right vs names scope stands u n v =
+    let two = two_stand p whole x y vs stands u n v in
+    blanks_between s ((text_of_formula p x).grouped names) ((text_of_formula p y).grouped names) (left vs names scope two.0).grouped (right vs names scope two.1).grouped
+
 spaced_implication : (p : Parts) (x y : Formula) → SpacedAt p x → SpacedAt p y → SpacedAt p (formula.Implies x y)
 unfolding SpacedAt
 spaced_implication p x y left right vs names scope stands =
-    let two = two_stand p (formula.Implies x y) x y vs stands (uses-Implies (world_of_parts p) x y vs) (numbers_of-Implies x y) (variables_of-Implies x y) in
-    let from : List Piece = (text_of_formula p x).grouped names in
-    let to : List Piece = (text_of_formula p y).grouped names in
-    let text = blanks_between symbol.Arrow from to (left vs names scope two.0).grouped (right vs names scope two.1).grouped in
+    let text = arrow_spaced p symbol.Arrow (formula.Implies x y) x y left right vs names scope stands (uses-Implies (world_of_parts p) x y vs) (numbers_of-Implies x y) (variables_of-Implies x y) in
     at_variant p (formula.Implies x y) (formula_text p (open_formula.Implies (text_of_formula p x) (text_of_formula p y))) names (text_of_formula-Implies p x y)
-    (record { plain = text; grouped = round_spaced (from ++ spaced symbol.Arrow ++ to) text; group_apart = refl })
+    (record { plain = text; grouped = round_spaced ((text_of_formula p x).grouped names ++ spaced symbol.Arrow ++ (text_of_formula p y).grouped names) text; group_apart = refl })
 
 spaced_equivalence : (p : Parts) (x y : Formula) → SpacedAt p x → SpacedAt p y → SpacedAt p (formula.Iff x y)
 unfolding SpacedAt
 spaced_equivalence p x y left right vs names scope stands =
-    let two = two_stand p (formula.Iff x y) x y vs stands (uses-Iff (world_of_parts p) x y vs) (numbers_of-Iff x y) (variables_of-Iff x y) in
-    let from : List Piece = (text_of_formula p x).grouped names in
-    let to : List Piece = (text_of_formula p y).grouped names in
-    let text = blanks_between symbol.Both from to (left vs names scope two.0).grouped (right vs names scope two.1).grouped in
+    let text = arrow_spaced p symbol.Both (formula.Iff x y) x y left right vs names scope stands (uses-Iff (world_of_parts p) x y vs) (numbers_of-Iff x y) (variables_of-Iff x y) in
     at_variant p (formula.Iff x y) (formula_text p (open_formula.Iff (text_of_formula p x) (text_of_formula p y))) names (text_of_formula-Iff p x y)
-    (record { plain = text; grouped = round_spaced (from ++ spaced symbol.Both ++ to) text; group_apart = refl })
+    (record { plain = text; grouped = round_spaced ((text_of_formula p x).grouped names ++ spaced symbol.Both ++ (text_of_formula p y).grouped names) text; group_apart = refl })
 
 -- one variable more
 more_names : (vs : List ℕ) (names : List (List ℕ)) (d : ℕ) (name : List ℕ) → Scope vs names → is_name name ≡ true → Scope (vs ++ d ∷ []) (names ++ name ∷ [])
