@@ -4,3 +4,8 @@ pub mod Spaced
 pub mod Printed
 pub mod TextsAt
 mod Combining
+mod SpacedTexts
+pub mod PrintedNames
+mod SpacedTerms
+mod SpacedFormulas
+pub mod CanonicalSpaced
