@@ -4,11 +4,10 @@ use Rattle.trio_types.specs.declared.spec.Spec.{Spec}
 use Rattle.trio_types.specs.Verdict.{parts_of}
 use Rattle.trio_types.specs.WellFormed.{is_well_formed}
 use Rattle.trio_types.proofs.Specs.{formed_of}
-use Rattle.trio_text.specs.declared.lexeme.Lexeme.{Lexeme}
 use Rattle.trio_text.specs.Lexemes.{lexemes_of}
 use Rattle.trio_syntax.specs.Grammar.{IsSpec}
 use Rattle.trio_syntax.specs.Depth.{first_deep}
-use Rattle.trio_reader.specs.Reading.{IsShallow, IsTreeText, IsSpecOf, IsSpecText}
+use Rattle.trio_reader.specs.Reading.{IsSpecText}
 use Rattle.trio_print.specs.Pieces.{Piece, text_of, lexemes_in}
 use Rattle.trio_print.specs.Canonical.{spec_pieces}
 use Rattle.trio_print.proofs.Spaced.{are_spaced}
