@@ -1,0 +1,5 @@
+pub mod Core
+pub mod CoreShape
+pub mod Sets
+pub mod Three
+pub mod Stands
