@@ -3,3 +3,4 @@ pub mod CoreShape
 pub mod Sets
 pub mod Three
 pub mod Stands
+pub mod Laws
