@@ -2,10 +2,15 @@
 pub mod TermCases
 pub mod Value3At
 pub mod Flat
-pub mod Declared
 pub mod Standing
+pub mod TermsAt
 mod Stays
 mod Sure
 mod Looks
 mod Nodes3
 mod Decided
+mod KnownAt
+mod TermsFit
+mod Sole
+mod NodesFit
+mod Evaluating

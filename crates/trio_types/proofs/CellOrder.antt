@@ -160,10 +160,14 @@ found_entry (d ∷ cells) (v ∷ t) (suc n) c o whole at =
     ∙ found_entry cells t n c (once_tail d cells o) (omega arith) at)
     (cases_Bool (same_cell d c))
 
+-- in a list with one entry for each cell a cell's entry is the one at its number
+pub entry_at : (w : World) (t : List ℕ) (n : ℕ) (c : Cell) → length t ≡ length (cells_of w) → slice_get (cells_of w) n ≡ Some c → value_at w t c ≡ slice_get t n
+unfolding value_at
+entry_at w t n c whole at = found_entry (cells_of w) t n c (record { once = cell_once w }) whole at
+
 -- a table's entry at a cell's number is the cell's value
 pub entry_is_value : (w : World) (t : List ℕ) (n : ℕ) (c : Cell) → IsTable w t → slice_get (cells_of w) n ≡ Some c → value_at w t c ≡ slice_get t n
-unfolding value_at
-entry_is_value w t n c fits at = found_entry (cells_of w) t n c (record { once = cell_once w }) fits.whole at
+entry_is_value w t n c fits at = entry_at w t n c fits.whole at
 
 -- and it is below the cell's size
 pub entry_below : (w : World) (t : List ℕ) (n v : ℕ) (c : Cell) → IsTable w t → slice_get (cells_of w) n ≡ Some c → slice_get t n ≡ Some v → v < cell_size w c
