@@ -57,7 +57,7 @@ at_range a (suc n) (suc m) x is = let r = at_range (a + 1) n m x is in (omega (a
 ordered_range : (a n : ℕ) → Ordered (λ x y. x < y) (range_with_len a n)
 ordered_range a n = record { order = λ k l x y less at bt. omega (arith, (at_range a n k x at).0, (at_range a n l y bt).0) }
 
-number_at : {X : Type 0} (a : ℕ) (xs : List X) (m : ℕ) (p : ℕ × X) → slice_get (enumerate_from a xs) m ≡ Some p → p.0 ≡ a + m
+pub number_at : {X : Type 0} (a : ℕ) (xs : List X) (m : ℕ) (p : ℕ × X) → slice_get (enumerate_from a xs) m ≡ Some p → p.0 ≡ a + m
 number_at a [] m p is = absurd (none-some p is)
 number_at a (x ∷ xs) zero p is = let e = ap (λ q. q.0) (same_Some (a, x) p is) in omega (arith, e)
 number_at a (x ∷ xs) (suc m) p is = omega (arith, number_at (a + 1) xs m p is)
