@@ -9,6 +9,7 @@ pub mod Answered
 mod PrintedLines
 mod PrintedValues
 mod Whole
+pub mod Tables
 mod LinePieces
 mod Written
 mod KnownNames

@@ -1,5 +1,5 @@
 -- The text that is printed of a given history is that given history.
-use Rattle.std.proofs.Common.{◌≡◌, ℕ, suc, ◌+◌, ◌*◌, ◌/◌, ◌<◌, nat_lt, Bool, true, false, not, ◌||◌, ◌==◌, List, [], ◌∷◌, ◌++◌, length, take, drop, map, zip, Option, None, Some, Ok, slice_get, option_map, refl, sym, ap, ap₂, subst, ◌∙◌, arith, length-append, length-take-le, take-append-drop}
+use Rattle.std.proofs.Common.{◌≡◌, ℕ, suc, ◌+◌, ◌*◌, ◌/◌, ◌<◌, Bool, true, false, not, ◌||◌, ◌==◌, List, [], ◌∷◌, ◌++◌, length, take, drop, map, zip, Option, None, Some, Ok, slice_get, option_map, refl, sym, ap, ap₂, subst, ◌∙◌, arith, length-append, length-take-le, take-append-drop}
 use Rattle.std.proofs.Math.Nat.{mul-div_cancel}
 use Rattle.std.proofs.lemmas.List.{length-map}
 use Rattle.std.specs.Prelude.{if◌then◌else◌}
@@ -10,7 +10,7 @@ use Rattle.std.proofs.lemmas.Iterator.Adapters.{position_from-zero}
 use Rattle.std.proofs.lemmas.List.Folds.{list_all-append, list_any-append}
 use Rattle.std.proofs.lemmas.Slice.Eq.{bytes_eq-Decides}
 use Rattle.trio_types.specs.World.{World, instants_of}
-use Rattle.trio_types.specs.Cells.{Row, Cell, the_cell, rows_of, cells_of_row, cells_of, cell_size}
+use Rattle.trio_types.specs.Cells.{Row, the_cell, rows_of, cells_of_row, cells_of, cell_size}
 use Rattle.trio_types.specs.Parts.{Parts, world_of_parts}
 use Rattle.trio_types.proofs.Lists.{all_from_each}
 use Rattle.trio_types.proofs.Specs.{Formed, formed_of, some_instant}
@@ -28,6 +28,7 @@ use Rattle.history_table.specs.History.{row_fault, is_named, names, have_row, li
 use Rattle.history_table.specs.Fitting.{IsGiven, is_below}
 use Rattle.history_table.specs.Decoding.{AreFound, has_row, row_of, cells_found, cells_at, joined}
 use Rattle.history_table.specs.Texts.{given_text}
+use Rattle.history_table.proofs.Tables.{known_within}
 use Rattle.history_table.proofs.LineRuns.{eq_true, eq_from}
 use Rattle.history_table.proofs.LineSteps.{history_is}
 use Rattle.history_table.specs.PrintedLaws.{PrintedHistoryLaw, PrintedTableLaw}
@@ -299,17 +300,8 @@ printed_history one p given well is =
       λ other said. same_Ok other given (one w text (Ok other) (Ok given) (λ no. cc) (λ no. cc) said says),
     )
 
--- a table that fits is a given history that fits
-known_below : (w : World) (cells : List Cell) (table : List ℕ) → list_all (λ c. nat_lt c.1 (cell_size w c.0)) (zip cells table) ≡ true →
-    list_all (λ c. is_below c.1 (cell_size w c.0)) (zip cells (map Some table)) ≡ true
-known_below w [] table below = refl
-known_below w (cell ∷ cells) [] below = refl
-known_below w (cell ∷ cells) (v ∷ vs) below =
-    let both = and_parts (nat_lt v (cell_size w cell)) (list_all (λ c. nat_lt c.1 (cell_size w c.0)) (zip cells vs)) below in
-    and_from (nat_lt v (cell_size w cell)) (list_all (λ c. is_below c.1 (cell_size w c.0)) (zip cells (map Some vs))) both.0 (known_below w cells vs both.1)
-
 pub printed_table : OneHistory → PrintedTableLaw
 printed_table one p table well is =
     let w : World = world_of_parts p in
     printed_history one p (map Some table) well
-    (record { whole = length-map table Some ∙ is.whole; within = known_below w (cells_of w) table is.within })
+    (record { whole = length-map table Some ∙ is.whole; within = known_within w (cells_of w) table ∙ is.within })

@@ -27,6 +27,7 @@ use Rattle.trio_syntax.specs.declared.tree.SpecTree.{SpecTree}
 use Rattle.trio_scope.specs.declared.meaning.Meaning.TheVariants as meaning
 use Rattle.trio_scope.specs.Names.{Declaration, declaration, words_from, words_of, declared_from, declarations, declared_of}
 use Rattle.trio_reader.specs.Erasure.{values_kind, domain_from, meaning_of}
+use Rattle.trio_reader.proofs.FormedNames.{names_of, words_names}
 use Rattle.trio_canonical.proofs.Told.{Pairwise}
 use Rattle.trio_canonical.proofs.Meant.{bool_first, IsMeant, Meant}
 use Rattle.trio_canonical.proofs.StatementTexts.{DomainStands, ItemStands, ClaimStands, SpecStands}
@@ -72,20 +73,8 @@ item_trees parts (i ∷ is_) (t ∷ ts) pairs =
       );
     }
 
--- the names of declarations
-abbrev pub names_of : List Declaration → List (List ℕ)
-names_of ds = map (λ (d : Declaration). d.name) ds
-
 abbrev pub stated : List DomainTree → List ItemTree → List DeclarationTree
 stated ds is_ = map statement.Domain ds ++ map statement.Item is_
-
-words_from_names : (domain index : ℕ) (ws : List Mention) → names_of (words_from domain index ws) ≡ map (λ (w : Mention). w.name) ws
-words_from_names domain index [] = refl
-words_from_names domain index (w ∷ ws) = ap (λ ns. w.name ∷ ns) (words_from_names domain (index + 1) ws)
-
-words_names : (domain : ℕ) (v : ValuesTree) → names_of (words_of domain v) ≡ words_of_kind (values_kind v)
-words_names domain (values.Range low high) = refl
-words_names domain (values.Words ws) = words_from_names domain 0 ws
 
 stated_names : (n m : ℕ) (ds : List DomainTree) (is_ : List ItemTree) →
     names_of (declared_from n m (stated ds is_)) ≡ flat_map names_of_domain (map domain_from ds) ++ map (λ (i : ItemTree). i.name.name) is_

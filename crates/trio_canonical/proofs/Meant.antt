@@ -15,7 +15,7 @@ use Rattle.trio_types.specs.declared.spec.Item.{Item}
 use Rattle.trio_types.specs.declared.spec.Axiom.{Axiom}
 use Rattle.trio_types.specs.Parts.{Parts}
 use Rattle.trio_types.specs.Names.{declared_names, are_distinct, is_new}
-use Rattle.trio_types.specs.WellFormed.{has_bool}
+use Rattle.trio_types.specs.WellFormed.{has_bool, is_bool, is_other}
 use Rattle.trio_types.proofs.Lists.{each_of, any_from_some}
 use Rattle.trio_syntax.specs.declared.tree.SpecTree.{SpecTree}
 use Rattle.trio_scope.specs.declared.meaning.Meaning.{Meaning}
@@ -32,14 +32,6 @@ pub record BoolFirst (domains : List Domain) : Type 0 where
   pub name : first.name ≡ codes "bool"
   pub bool : first.kind ≡ kind.Bool
   pub no_other : (k : ℕ) (domain : Domain) → slice_get others k ≡ Some domain → domain.kind ≡ kind.Bool → ⊥
-
-abbrev is_bool : DomainKind → Bool
-is_bool kind.Bool = true
-is_bool values = false
-
-abbrev is_other : DomainKind → Bool
-is_other kind.Bool = false
-is_other values = true
 
 bool_kind : (k : DomainKind) → is_bool k ≡ true → k ≡ kind.Bool
 bool_kind kind.Bool is = refl

@@ -7,20 +7,14 @@ use Rattle.std.proofs.lemmas.List.{append-nil, map-append}
 use Rattle.std.proofs.lemmas.List.Folds.{list_all-map, list_any-append}
 use Rattle.trio_types.specs.declared.spec.Item.{Item}
 use Rattle.trio_types.specs.declared.spec.Axiom.{Axiom}
-use Rattle.trio_types.specs.declared.formula.Formula.{Formula}
 use Rattle.trio_types.specs.Names.{words_of as words_of_kind, names_of_domain, declared_names, are_distinct, is_new, variables_are_new}
 use Rattle.trio_types.specs.WellFormed.{names_are_distinct, variables_are_distinct}
 use Rattle.trio_types.proofs.Lists.{list_any-map, any_same}
-use Rattle.trio_types.proofs.NamesAt.{variables_are_new-Not, variables_are_new-And, variables_are_new-Or, variables_are_new-Implies, variables_are_new-Iff, variables_are_new-All, variables_are_new-Ex, variables_are_new-One, variables_are_new-Far, variables_are_new-Pair}
-use Rattle.trio_syntax.specs.declared.tree.Quantifier.{Quantifier}
-use Rattle.trio_syntax.specs.declared.tree.Quantifier.TheVariants as quantifier
-use Rattle.trio_syntax.specs.declared.tree.Mention.{Mention}
+use Rattle.trio_types.proofs.NamesAt.{variables_are_new-Not, variables_are_new-And, variables_are_new-Or, variables_are_new-Implies, variables_are_new-Iff, variables_are_new-One, variables_are_new-Far, variables_are_new-Pair}
 use Rattle.trio_syntax.specs.declared.tree.TermTree.{TermTree, out-TermTree}
 use Rattle.trio_syntax.specs.declared.tree.TermShape.{TermShape}
 use Rattle.trio_syntax.specs.declared.tree.PartTree.{out-PartTree}
 use Rattle.trio_syntax.specs.declared.tree.FormulaTree.{FormulaTree}
-use Rattle.trio_syntax.specs.declared.tree.ValuesTree.{ValuesTree}
-use Rattle.trio_syntax.specs.declared.tree.ValuesTree.TheVariants as values
 use Rattle.trio_syntax.specs.declared.tree.DomainTree.{DomainTree}
 use Rattle.trio_syntax.specs.declared.tree.ItemTree.{ItemTree}
 use Rattle.trio_syntax.specs.declared.tree.DeclarationTree.{DeclarationTree}
@@ -31,14 +25,15 @@ use Rattle.trio_scope.specs.declared.meaning.Meaning.TheVariants as meaning
 use Rattle.trio_scope.specs.declared.walk.Role.{Role}
 use Rattle.trio_scope.specs.declared.walk.Role.TheVariants as role
 use Rattle.trio_scope.specs.Places.{unless}
-use Rattle.trio_scope.specs.Names.{Declaration, declaration, words_from, words_of, declared_from, declarations, domains_in, items_in, is_declared, repeated_behind}
+use Rattle.trio_scope.specs.Names.{Declaration, declaration, words_of, declared_from, declarations, domains_in, items_in, is_declared, repeated_behind}
 use Rattle.trio_scope.specs.Gather.{Variable, Finding, places_in, places_in_term, places_in_shape, places_in_claims}
 use Rattle.trio_scope.specs.Scope.{is_variable, twice_finding, repeated_places}
 use Rattle.trio_scope.proofs.Gathers.{in-term, in-Number, in-Truth, in-Named, in-Call, in-Sum, in-Times, in-Lone, in-Compare, in-Not, in-And, in-Or, in-Implies, in-Iff, in-Quantified, in-One, in-Far, in-Pair}
-use Rattle.trio_reader.specs.Erasure.{values_kind, domain_from, item_from, axiom_from, is_wanted, claims_from, term_of, formula_of, quantified, domain_of, parts_of_tree}
+use Rattle.trio_reader.specs.Erasure.{values_kind, domain_from, item_from, axiom_from, is_wanted, claims_from, term_of, formula_of, domain_of, parts_of_tree}
 use Rattle.trio_reader.proofs.Erased.{formula-Not, formula-And, formula-Or, formula-Implies, formula-Iff, formula-Quantified, formula-One, formula-Far, formula-Pair}
 use Rattle.trio_reader.proofs.FormedCases.{Each, FormulaCases, every_formula, TermCases, every_shape, term_in}
-use Rattle.trio_reader.proofs.FormedNames.{same_names, same_declared}
+use Rattle.trio_reader.proofs.FormedVariables.{quantified_new}
+use Rattle.trio_reader.proofs.FormedNames.{same_names, same_declared, names_of, words_names, any_named}
 use Rattle.trio_canonical.proofs.SoundPhases.{both_empty, passes, each_empty, all_empty, claims_each}
 
 -- a name among distinct names: it is none of the others, and these are distinct
@@ -76,15 +71,6 @@ moved front middle rest n is =
     let same = append_assoc front middle rest in
     one_more front (middle ++ rest) n (ap (list_any (bytes_eq n)) (sym same) ∙ less.0) (ap are_distinct (sym same) ∙ less.1)
 
--- the names of declarations
-abbrev names_of : List Declaration → List (List ℕ)
-names_of ds = map (λ (d : Declaration). d.name) ds
-
-any_named : (name : List ℕ) (ds : List Declaration) → list_any (bytes_eq name) (names_of ds) ≡ is_declared ds name
-any_named name ds =
-    list_any-map (bytes_eq name) (λ (d : Declaration). d.name) ds
-    ∙ any_same (λ (d : Declaration). bytes_eq name d.name) (λ (d : Declaration). bytes_eq d.name name) (λ d. same_names name d.name) ds
-
 -- where the names of declarations are distinct, none is repeated
 none_repeated : (front ds : List Declaration) → are_distinct (names_of (front ++ ds)) ≡ true → repeated_behind front ds ≡ []
 none_repeated front [] is = refl
@@ -97,14 +83,6 @@ none_repeated front (d ∷ ds) is =
     (passes (not (is_declared front d.name)) d.declared.place
     (not_from_false (is_declared front d.name) (sym (any_named d.name front) ∙ apart.0)))
     (none_repeated (front ++ d ∷ []) ds (ap (λ xs. are_distinct (names_of xs)) (append_assoc front (d ∷ []) ds) ∙ is))
-
-words_from_names : (domain index : ℕ) (ws : List Mention) → names_of (words_from domain index ws) ≡ map (λ (w : Mention). w.name) ws
-words_from_names domain index [] = refl
-words_from_names domain index (w ∷ ws) = ap (λ ns. w.name ∷ ns) (words_from_names domain (index + 1) ws)
-
-words_names : (domain : ℕ) (v : ValuesTree) → names_of (words_of domain v) ≡ words_of_kind (values_kind v)
-words_names domain (values.Range low high) = refl
-words_names domain (values.Words ws) = words_from_names domain 0 ws
 
 -- domains before items
 abbrev pub in_order : List DomainTree → List ItemTree → List DeclarationTree
@@ -224,11 +202,6 @@ module _ (rule : Finding) (silent : (e : List Variable) (r : Role) (inside : Boo
   nothing_in_term t = of_term t (every_shape SilentShape silent_cases (out-TermTree t).shape)
 
 -- variables
-quantified_new : (q : Quantifier) (name : List ℕ) (d : ℕ) (f : Formula) (taken : List (List ℕ)) →
-    variables_are_new (quantified q name d f) taken ≡ (is_new name taken && variables_are_new f (taken ++ name ∷ []))
-quantified_new quantifier.All name d f taken = variables_are_new-All name d f taken
-quantified_new quantifier.Ex name d f taken = variables_are_new-Ex name d f taken
-
 module _ (tree : SpecTree) where
   abbrev rule : Finding
   rule = twice_finding (declarations tree)

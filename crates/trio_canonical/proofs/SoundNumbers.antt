@@ -4,31 +4,27 @@ use Rattle.std.specs.List.{list_all, flat_map}
 use Rattle.std.proofs.lemmas.Bool.{and_parts}
 use Rattle.trio_base.specs.declared.limits.TheConstants.{GREATEST_NUMBER}
 use Rattle.trio_types.specs.declared.spec.Axiom.{Axiom}
-use Rattle.trio_types.specs.declared.formula.Term.{Term}
-use Rattle.trio_types.specs.declared.formula.SignedTerm.{SignedTerm, SignedTerm-F, out-SignedTerm, out-roll-SignedTerm}
-use Rattle.trio_types.specs.declared.formula.Formula.{Formula}
+use Rattle.trio_types.specs.declared.formula.SignedTerm.{SignedTerm, out-SignedTerm}
 use Rattle.trio_types.specs.Shape.{numbers_in, numbers_of}
 use Rattle.trio_types.specs.WellFormed.{numbers_are_small}
 use Rattle.trio_types.proofs.Lists.{all_left, all_right}
-use Rattle.trio_types.proofs.ShapeAt.{numbers_in-Number, numbers_in-Read, numbers_in-Sum, numbers_in-Times, numbers_of-Lone, numbers_of-Compare, numbers_of-Not, numbers_of-And, numbers_of-Or, numbers_of-Implies, numbers_of-Iff, numbers_of-All, numbers_of-Ex, numbers_of-One, numbers_of-Far, numbers_of-Pair}
-use Rattle.trio_syntax.specs.declared.tree.Quantifier.{Quantifier}
-use Rattle.trio_syntax.specs.declared.tree.Quantifier.TheVariants as quantifier
+use Rattle.trio_types.proofs.ShapeAt.{numbers_in-Number, numbers_in-Read, numbers_in-Sum, numbers_in-Times, numbers_of-Lone, numbers_of-Compare, numbers_of-Not, numbers_of-And, numbers_of-Or, numbers_of-Implies, numbers_of-Iff, numbers_of-One, numbers_of-Far, numbers_of-Pair}
 use Rattle.trio_syntax.specs.declared.tree.Written.{Written}
 use Rattle.trio_syntax.specs.declared.tree.TermTree.{TermTree, out-TermTree}
 use Rattle.trio_syntax.specs.declared.tree.TermShape.{TermShape, out-TermShape}
 use Rattle.trio_syntax.specs.declared.tree.TermShape.TheVariants as shape
-use Rattle.trio_syntax.specs.declared.tree.PartTree.{PartTree, out-PartTree}
+use Rattle.trio_syntax.specs.declared.tree.PartTree.{out-PartTree}
 use Rattle.trio_syntax.specs.declared.tree.FormulaTree.{FormulaTree}
 use Rattle.trio_syntax.specs.declared.tree.SpecTree.{SpecTree}
 use Rattle.trio_scope.specs.declared.walk.Role.{Role}
 use Rattle.trio_scope.specs.declared.walk.Role.TheVariants as role
 use Rattle.trio_scope.specs.Gather.{Variable, places_in, places_in_term, places_in_shape, places_in_claims}
 use Rattle.trio_scope.proofs.Gathers.{in-term, in-Number, in-Truth, in-Named, in-Call, in-Sum, in-Times, in-Lone, in-Compare, in-Not, in-And, in-Or, in-Implies, in-Iff, in-Quantified, in-One, in-Far, in-Pair}
-use Rattle.trio_reader.specs.Erasure.{shape_of, term_of, part_from, formula_of, quantified, domain_of, parts_of_tree}
+use Rattle.trio_reader.specs.Erasure.{shape_of, term_of, part_from, formula_of, domain_of, parts_of_tree}
 use Rattle.trio_reader.specs.Ranges.{if_large, own_numbers, range_finding}
 use Rattle.trio_reader.proofs.Erased.{term-shape, shape-Number, shape-Call, shape-Sum, shape-Times, formula-Lone, formula-Compare, formula-Not, formula-And, formula-Or, formula-Implies, formula-Iff, formula-Quantified, formula-One, formula-Far, formula-Pair}
 use Rattle.trio_reader.proofs.FormedCases.{Each, FormulaCases, every_formula, TermCases, every_shape, term_in}
-use Rattle.trio_reader.proofs.FormedNumbers.{flat_all, flat_all_of}
+use Rattle.trio_reader.proofs.FormedNumbers.{flat_all, flat_all_of, quantified_numbers, part_numbers}
 use Rattle.trio_canonical.proofs.SoundPhases.{both_empty, passes, each_empty, all_empty, claims_each}
 
 abbrev small : List ℕ → Bool
@@ -46,10 +42,6 @@ small_each f g xs all = sym (flat_all_of (λ n. nat_le n GREATEST_NUMBER) f g xs
 own_small : (n : Written) → nat_le n.number GREATEST_NUMBER ≡ true → if_large n ++ [] ≡ []
 own_small n is = both_empty (if_large n) [] (passes (nat_le n.number GREATEST_NUMBER) n.place is) refl
 
-quantified_numbers : (q : Quantifier) (name : List ℕ) (d : ℕ) (f : Formula) → numbers_of (quantified q name d f) ≡ numbers_of f
-quantified_numbers quantifier.All name d f = numbers_of-All name d f
-quantified_numbers quantifier.Ex name d f = numbers_of-Ex name d f
-
 module _ (tree : SpecTree) where
   CleanShape : TermShape → Type 0
   CleanShape s = (e : List Variable) (inside : Bool) → small (numbers_in (shape_of tree s e)) ≡ true →
@@ -62,11 +54,6 @@ module _ (tree : SpecTree) where
       let both = is e inside (sym (ap (λ x. small (numbers_in x)) (term-shape tree t e)) ∙ all) in
       in-term range_finding t e r inside
       ∙ both_empty (flat_map if_large (own_numbers (out-TermShape (out-TermTree t).shape))) (places_in_shape range_finding (out-TermTree t).shape e inside) both.0 both.1
-
-  part_numbers : (e : List Variable) (p : PartTree) → numbers_in (out-SignedTerm (part_from tree p e)).term ≡ numbers_in (term_of tree (out-PartTree p).term e)
-  part_numbers e p =
-      ap (λ (x : SignedTerm-F Term SignedTerm). numbers_in x.term)
-      (out-roll-SignedTerm (record { minus = (out-PartTree p).minus; term = term_of tree (out-PartTree p).term e }))
 
   shape_cases : TermCases CleanShape
   unfolding CleanShape
@@ -92,7 +79,7 @@ module _ (tree : SpecTree) where
           in-Sum range_finding e inside parts
               ∙ each_empty (λ p. CleanShape (term_in p)) (λ p. places_in_term range_finding (out-PartTree p).term e role.Part inside)
               (λ p. small (numbers_in (out-SignedTerm (part_from tree p e)).term))
-              (λ p is yes. of_term (out-PartTree p).term is e role.Part inside (sym (ap small (part_numbers e p)) ∙ yes)) parts each
+              (λ p is yes. of_term (out-PartTree p).term is e role.Part inside (sym (ap small (part_numbers tree e p)) ∙ yes)) parts each
               (small_each (λ (p : SignedTerm). numbers_in (out-SignedTerm p).term) (λ p. part_from tree p e) parts below),
         );
     at_times = λ n t is e inside all.

@@ -7,11 +7,10 @@ use Rattle.std.proofs.lemmas.List.{length-map}
 use Rattle.std.proofs.lemmas.List.Folds.{list_all-map}
 use Rattle.trio_types.specs.declared.spec.Item.{Item}
 use Rattle.trio_types.specs.declared.formula.Term.{Term}
-use Rattle.trio_types.specs.declared.formula.SignedTerm.{SignedTerm, out-SignedTerm, out-roll-SignedTerm}
 use Rattle.trio_types.specs.World.{World}
 use Rattle.trio_types.specs.Kinds.{Use, Gathered, gathered, kind_in, term_uses, is_right, in_role, part, argument, of_item, argument_uses}
 use Rattle.trio_types.specs.Kinds.{args_of as arguments_of}
-use Rattle.trio_types.proofs.Lists.{all_left, all_right, map-map, map_same}
+use Rattle.trio_types.proofs.Lists.{all_left, all_right, map-map}
 use Rattle.trio_types.proofs.KindsAt.{gathered-Read, gathered-Sum, gathered-Times}
 use Rattle.trio_syntax.specs.declared.tree.TermTree.{TermTree, out-TermTree}
 use Rattle.trio_syntax.specs.declared.tree.TermShape.{TermShape, out-TermShape}
@@ -28,7 +27,7 @@ use Rattle.trio_reader.specs.Kinds.{Placed, placed, wrong_places, kind_of, role_
 use Rattle.trio_reader.proofs.Erased.{term-shape, shape-Named, shape-Call, shape-Sum, shape-Times}
 use Rattle.trio_reader.proofs.FormedCases.{TermCases, every_shape, term_in}
 use Rattle.trio_reader.proofs.FormedNumbers.{flat_all_of}
-use Rattle.trio_reader.proofs.FormedTerms.{all_both, placed_right}
+use Rattle.trio_reader.proofs.FormedTerms.{all_both, placed_right, signed_parts}
 use Rattle.trio_canonical.proofs.SoundPhases.{both_empty, passes, each_empty, all_empty}
 
 -- where each use is right, no place is wrong
@@ -82,15 +81,6 @@ module _ (tree : SpecTree) where
       and_from (placed_right (argument_use tree e (d, a))) (list_all placed_right (map (argument_use tree e) (zip ds as_))) both.0
       (arguments_placed e ds as_ both.1)
 
-  signed_parts : (e : List Variable) (ps : List PartTree) →
-      map (λ (p : SignedTerm). gathered world (domains_of tree e) (out-SignedTerm p).term) (map (λ p. part_from tree p e) ps)
-      ≡ map (λ p. gathered_of e (out-PartTree p).term) ps
-  signed_parts e ps =
-      map-map (λ (p : SignedTerm). gathered world (domains_of tree e) (out-SignedTerm p).term) (λ p. part_from tree p e) ps
-      ∙ map_same (λ p. gathered world (domains_of tree e) (out-SignedTerm (part_from tree p e)).term) (λ p. gathered_of e (out-PartTree p).term)
-      (λ p. ap (λ s. gathered world (domains_of tree e) s.term)
-      (out-roll-SignedTerm (record { minus = (out-PartTree p).minus; term = term_of tree (out-PartTree p).term e }))) ps
-
   shape_cases : TermCases ShapeRight
   unfolding ShapeRight
   shape_cases = record {
@@ -133,7 +123,7 @@ module _ (tree : SpecTree) where
         let below : List Use = flat_map (λ (g : Gathered). g.uses inside) gs in
         let right = sym (ap (uses_right e inside) (shape-Sum tree e ps)
         ∙ ap (λ (g : Gathered). list_all is_right (g.uses inside)) (gathered-Sum world (domains_of tree e) (map (λ p. part_from tree p e) ps))
-        ∙ ap (λ hs. list_all is_right (map (λ (g : Gathered). in_role part g.kind) hs ++ flat_map (λ (g : Gathered). g.uses inside) hs)) (signed_parts e ps)) ∙ all in (
+        ∙ ap (λ hs. list_all is_right (map (λ (g : Gathered). in_role part g.kind) hs ++ flat_map (λ (g : Gathered). g.uses inside) hs)) (signed_parts tree e ps)) ∙ all in (
           ap (λ s. list_all placed_right (shape_uses tree e inside s)) (shape.outs-Sum ps),
           in-Sum (kind_finding tree) e inside ps
               ∙ each_empty (λ p. ShapeRight (term_in p)) (λ p. places_in_term (kind_finding tree) (out-PartTree p).term e role.Part inside)

@@ -1,16 +1,14 @@
--- Given histories: the row that a fault names, the first unknown cell, and the table that they are.
-use Rattle.std.proofs.Common.{◌≡◌, ℕ, ◌<◌, nat_lt, ◌&&◌, List, [], ◌∷◌, length, map, Option, None, Some, Err, refl, sym, ◌∙◌, ap, subst, arith, not}
+-- Given histories: the row that a fault names, and the first unknown cell.
+use Rattle.std.proofs.Common.{◌≡◌, ℕ, ◌<◌, List, [], length, Option, None, Some, Err, refl, ◌∙◌, ap, subst, arith, not}
 use Rattle.std.specs.Prelude.{is_none}
-use Rattle.std.specs.List.{list_all, zip}
-use Rattle.std.proofs.lemmas.List.{length-map}
 use Rattle.std.proofs.lemmas.List.Quantifiers.{position-Some}
 use Rattle.trio_types.specs.World.{World}
-use Rattle.trio_types.specs.Cells.{Cell, rows_of, cells_of, cell_size, IsTable}
+use Rattle.trio_types.specs.Cells.{rows_of, cells_of}
 use Rattle.history_table.specs.declared.fault.HistFault.{HistFault}
 use Rattle.history_table.specs.declared.fault.HistFault.TheVariants as fault
 use Rattle.history_table.specs.Lines.{Placed}
 use Rattle.history_table.specs.History.{lines_fault, have_row, missing_row, if_whole, if_sound, IsHistoryAnswer}
-use Rattle.history_table.specs.Fitting.{is_below, IsGiven, first_unknown}
+use Rattle.history_table.specs.Fitting.{IsGiven, first_unknown}
 use Rattle.history_table.proofs.Answered.{OfLine, of_lines}
 
 whole_missing : (w : World) (lines : List Placed) (o : Option ℕ) (row : ℕ) → missing_row w lines ≡ o → if_whole w lines o ≡ Err (fault.MissingRow row) →
@@ -38,17 +36,3 @@ pub unknown_within : (w : World) (given : List (Option ℕ)) (cell : ℕ) → Is
 unknown_within w given cell fits first =
     let inside : cell < length given = (position-Some is_none given cell None first).0 in
     omega (arith, fits.whole)
-
-known_within : (w : World) (cells : List Cell) (table : List ℕ) →
-    list_all (λ p. is_below p.1 (cell_size w p.0)) (zip cells (map Some table)) ≡ list_all (λ p. nat_lt p.1 (cell_size w p.0)) (zip cells table)
-known_within w [] table = refl
-known_within w (c ∷ cs) [] = refl
-known_within w (c ∷ cs) (v ∷ vs) = ap (λ b. nat_lt v (cell_size w c) && b) (known_within w cs vs)
-
--- a given history in which every value is known is a table
-pub table_fits : (w : World) (given : List (Option ℕ)) (table : List ℕ) → IsGiven w given → given ≡ map Some table → IsTable w table
-table_fits w given table fits known = record {
-  whole = sym (length-map table Some) ∙ ap length (sym known) ∙ fits.whole;
-  within = sym (known_within w (cells_of w) table)
-      ∙ ap (λ g. list_all (λ p. is_below p.1 (cell_size w p.0)) (zip (cells_of w) g)) (sym known) ∙ fits.within;
-}

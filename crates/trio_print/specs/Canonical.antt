@@ -20,6 +20,7 @@ use Rattle.trio_types.specs.declared.formula.Formula.TheOpen.{Formula-F}
 use Rattle.trio_types.specs.declared.formula.Formula.TheOpen as open_formula
 use Rattle.trio_types.specs.declared.formula.Formula.TheFolds.{fold-Formula}
 use Rattle.trio_types.specs.Parts.{Parts}
+use Rattle.trio_types.specs.Names.{words_of}
 use Rattle.trio_syntax.specs.Words.{rel_sign, one_word, far_word, pair_word, adding_sign, truth_word, item_word, claim_word}
 use Rattle.trio_print.specs.Pieces.{Piece, token, blank, line_end}
 
@@ -71,10 +72,6 @@ domain_name (Some domain) = domain.name
 -- `bool`, or the name of the domain of this number
 abbrev pub ref : Parts → ℕ → List Piece
 ref parts d = if d == 0 then word_ word.Bool else name_ (domain_name (slice_get parts.domains d))
-
-abbrev words_of : DomainKind → List (List ℕ)
-words_of (kind.Words words) = words
-words_of values = []
 
 abbrev pub word_name : Option Domain → ℕ → List ℕ
 word_name None v = []

@@ -86,20 +86,17 @@ once_distinct (x ∷ xs) once =
     (once_distinct xs (λ name. omega (arith, once name)))
 
 -- the names of declarations
-names_of : List Declaration → List (List ℕ)
+abbrev pub names_of : List Declaration → List (List ℕ)
 names_of ds = map (λ d. d.name) ds
 
 names_of-append : (xs ys : List Declaration) → names_of (xs ++ ys) ≡ names_of xs ++ names_of ys
-unfolding names_of
 names_of-append xs ys = map-append (λ (d : Declaration). d.name) xs ys
 
-words_from_names : (domain index : ℕ) (ws : List Mention) → names_of (words_from domain index ws) ≡ map (λ (w : Mention). w.name) ws
-unfolding names_of
+pub words_from_names : (domain index : ℕ) (ws : List Mention) → names_of (words_from domain index ws) ≡ map (λ (w : Mention). w.name) ws
 words_from_names domain index [] = refl
 words_from_names domain index (w ∷ ws) = ap (λ ns. w.name ∷ ns) (words_from_names domain (index + 1) ws)
 
-words_names : (domain : ℕ) (v : ValuesTree) → names_of (words_of domain v) ≡ words_of_kind (values_kind v)
-unfolding names_of
+pub words_names : (domain : ℕ) (v : ValuesTree) → names_of (words_of domain v) ≡ words_of_kind (values_kind v)
 words_names domain (values.Range low high) = refl
 words_names domain (values.Words ws) = words_from_names domain 0 ws
 
@@ -115,7 +112,7 @@ module _ (tree : SpecTree) where
 
   statements_same : (name : List ℕ) (domains items : ℕ) (statements : List DeclarationTree) →
       times name (names_of (declared_from domains items statements)) ≡ times name (domain_names statements) + times name (item_names statements)
-  unfolding times names_of domain_names item_names
+  unfolding times domain_names item_names
   statements_same name domains items [] = omega arith
   statements_same name domains items (statement.Domain d ∷ rest) =
       let before = statements_same name (domains + 1) items rest in
@@ -143,7 +140,7 @@ module _ (tree : SpecTree) where
   claims_same : (name : List ℕ) (claims : List ClaimTree) →
       times name (claim_names false claims) + times name (claim_names true claims)
       ≡ times name (names_of (map (λ (c : ClaimTree). declaration c.name meaning.Claim) claims))
-  unfolding times names_of claim_names
+  unfolding times claim_names
   claims_same name [] = omega arith
   claims_same name (c ∷ cs) =
       rw (one_claim name (not c.goal) c (filter (is_wanted false) cs), one_claim name c.goal c (filter (is_wanted true) cs))
@@ -171,7 +168,7 @@ Apart front ds = list_all (λ d. not (is_declared front d.name)) ds ≡ true
 
 none_equal : (front : List Declaration) (x : Declaration) (ds : List Declaration) → Apart (front ++ x ∷ []) ds →
     (list_any (bytes_eq x.name) (names_of ds) ≡ false) × Apart front ds
-unfolding Apart names_of
+unfolding Apart
 none_equal front x [] is = (refl, refl)
 none_equal front x (d ∷ ds) is =
     let p = and_parts (not (is_declared (front ++ x ∷ []) d.name)) (list_all (λ d. not (is_declared (front ++ x ∷ []) d.name)) ds) is in
@@ -183,7 +180,7 @@ none_equal front x (d ∷ ds) is =
     )
 
 distinct_behind : (front ds : List Declaration) → repeated_behind front ds ≡ [] → (are_distinct (names_of ds) ≡ true) × Apart front ds
-unfolding Apart names_of
+unfolding Apart
 distinct_behind front [] none = (refl, refl)
 distinct_behind front (d ∷ ds) none =
     let p = append_empty (unless (not (is_declared front d.name)) d.declared.place) (repeated_behind (front ++ d ∷ []) ds) none in
@@ -215,8 +212,7 @@ pub same_names : (x y : List ℕ) → bytes_eq x y ≡ bytes_eq y x
 same_names x y = same_from_decides (bytes_eq x y) (bytes_eq y x) (bytes_eq-Decides x y)
     (Decides-like (bytes_eq y x) sym sym (bytes_eq-Decides y x))
 
-any_named : (name : List ℕ) (ds : List Declaration) → list_any (bytes_eq name) (names_of ds) ≡ is_declared ds name
-unfolding names_of
+pub any_named : (name : List ℕ) (ds : List Declaration) → list_any (bytes_eq name) (names_of ds) ≡ is_declared ds name
 any_named name [] = refl
 any_named name (d ∷ ds) = rw (same_names name d.name, any_named name ds) refl
 

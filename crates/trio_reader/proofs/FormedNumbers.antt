@@ -63,7 +63,7 @@ named_small (sense.Variable level) = ap small (numbers_in-Var level)
 named_small (sense.Word d v) = ap small (numbers_in-Value d v)
 named_small (sense.Item n) = ap small (numbers_in-Read n [])
 
-quantified_numbers : (q : Quantifier) (name : List ℕ) (d : ℕ) (f : Formula) → numbers_of (quantified q name d f) ≡ numbers_of f
+pub quantified_numbers : (q : Quantifier) (name : List ℕ) (d : ℕ) (f : Formula) → numbers_of (quantified q name d f) ≡ numbers_of f
 quantified_numbers quantifier.All name d f = numbers_of-All name d f
 quantified_numbers quantifier.Ex name d f = numbers_of-Ex name d f
 
@@ -83,7 +83,7 @@ module _ (tree : SpecTree) where
   own_small : (n : Written) (rest : List ℕ) → if_large n ++ rest ≡ [] → nat_le n.number GREATEST_NUMBER ≡ true
   own_small n rest none = unless_empty (nat_le n.number GREATEST_NUMBER) n.place (append_empty (if_large n) rest none).0
 
-  part_numbers : (e : List Variable) (p : PartTree) → numbers_in (out-SignedTerm (part_from tree p e)).term ≡ numbers_in (term_of tree (out-PartTree p).term e)
+  pub part_numbers : (e : List Variable) (p : PartTree) → numbers_in (out-SignedTerm (part_from tree p e)).term ≡ numbers_in (term_of tree (out-PartTree p).term e)
   part_numbers e p =
       ap (λ (x : SignedTerm-F Term SignedTerm). numbers_in x.term)
       (out-roll-SignedTerm (record { minus = (out-PartTree p).minus; term = term_of tree (out-PartTree p).term e }))

@@ -168,7 +168,7 @@ module _ (tree : SpecTree) (e : List Variable) where
       (flat_map (λ (g : Gathered). g.uses inside) (map (λ p. gathered_of (out-PartTree p).term) (map (λ x. x.0) xs)))
       (x.1 e role.Part inside both.0) (in_parts inside xs both.1)
 
-  signed_parts : (ps : List PartTree) →
+  pub signed_parts : (ps : List PartTree) →
       map (λ (p : SignedTerm). gathered (world_of_tree tree) (domains_of tree e) (out-SignedTerm p).term) (map (λ p. part_from tree p e) ps)
       ≡ map (λ p. gathered_of (out-PartTree p).term) ps
   signed_parts ps =

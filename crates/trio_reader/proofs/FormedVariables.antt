@@ -27,7 +27,7 @@ use Rattle.trio_reader.proofs.FormedCases.{Each, each_clean, FormulaCases, every
 use Rattle.trio_reader.proofs.FormedClaims.{claims_pass}
 use Rattle.trio_reader.proofs.FormedNames.{is_once, same_names, same_declared}
 
-quantified_new : (q : Quantifier) (name : List ℕ) (d : ℕ) (f : Formula) (taken : List (List ℕ)) →
+pub quantified_new : (q : Quantifier) (name : List ℕ) (d : ℕ) (f : Formula) (taken : List (List ℕ)) →
     variables_are_new (quantified q name d f) taken ≡ (is_new name taken && variables_are_new f (taken ++ name ∷ []))
 quantified_new quantifier.All name d f taken = variables_are_new-All name d f taken
 quantified_new quantifier.Ex name d f taken = variables_are_new-Ex name d f taken

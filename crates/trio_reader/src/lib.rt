@@ -21,4 +21,5 @@ pub use laws::{
     text_has_specification_or_fault,
 };
 pub use reading::read_spec;
+pub use trio_print::spec_text;
 pub use trio_types::Which;

@@ -18,11 +18,11 @@ use Rattle.trio_types.specs.Limits.{count_of, limit_of, counted}
 abbrev pub has_instants : Parts → Bool
 has_instants parts = nat_lt 0 parts.instants && nat_le parts.instants MOST_INSTANTS
 
-abbrev is_bool : DomainKind → Bool
+abbrev pub is_bool : DomainKind → Bool
 is_bool kind.Bool = true
 is_bool values = false
 
-abbrev is_other : DomainKind → Bool
+abbrev pub is_other : DomainKind → Bool
 is_other kind.Bool = false
 is_other values = true
 

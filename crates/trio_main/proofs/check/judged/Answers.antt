@@ -1,6 +1,6 @@
 -- A given history in which every value is known is a table of the specification, and its first unknown cell is one of the specification's.
 use Rattle.trio_types.specs.Verdict.{world_of}
-use Rattle.trio_main.proofs.Histories.{table_fits}
+use Rattle.history_table.proofs.Tables.{table_fits}
 use Rattle.trio_main.proofs.check.judged.Goals as goal
 
 pub verdict_answer-requires : goal.verdict_answer-requires
