@@ -1,37 +1,25 @@
 -- The values and the bounds of terms that fit.
-use Rattle.std.proofs.Common.{◌≡◌, ℕ, zero, suc, ◌+◌, ◌*◌, ◌<◌, ◌≤◌, ℤ, pos, negsuc, neg_ℤ, ◌+ℤ◌, ◌*ℤ◌, ◌≤ℤ◌, nat_abs, to_z, of_z, w64, Bool, true, false, not, ◌&&◌, nat_lt, if◌then◌else◌, List, [], ◌∷◌, ◌++◌, map, length, take, drop, get_or, set, sum, Option, None, Some, slice_get, refl, sym, ap, ◌∙◌, arith}
+use Rattle.std.proofs.Common.{◌≡◌, ℕ, ◌*◌, ◌<◌, ◌≤◌, ℤ, pos, ◌*ℤ◌, nat_abs, true, not, ◌&&◌, List, map, length, take, sum, Option, None, Some, slice_get, refl, sym, ap, ◌∙◌, arith}
 use Rattle.std.specs.List.{list_all, flat_map}
-use Rattle.std.specs.Option.{option_map, option_and_then}
-use Rattle.std.proofs.Math.Logic.{⊎_elim}
-use Rattle.std.proofs.lemmas.Bool.{false≢true, and_parts, eqb-true, ltb-true, lt-ltb, and_from, cases_Bool}
-use Rattle.std.proofs.lemmas.Int.{ints, unsigned_abs-mul}
+use Rattle.std.specs.Option.{option_map}
+use Rattle.std.proofs.lemmas.Bool.{false≢true, and_parts, eqb-true}
+use Rattle.std.proofs.lemmas.Int.{unsigned_abs-mul}
 use Rattle.std.proofs.Math.Nat.{mul-le-mul_left}
-use Rattle.std.proofs.lemmas.List.{drop_more, drop_all, append-nil, take_more, length-map, map-append}
-use Rattle.std.proofs.lemmas.List.Sums.{sum_by_more, sum_by-take-le, sum-map}
-use Rattle.std.proofs.lemmas.Option.{none-some, same_Some, slice_get-map, slice_get_within, get_or_from_slice_get}
-use Rattle.trio_types.specs.declared.spec.DomainKind.{DomainKind}
-use Rattle.trio_types.specs.declared.spec.DomainKind.TheVariants as domain_kind
-use Rattle.trio_types.specs.declared.spec.Domain.{Domain}
+use Rattle.std.proofs.lemmas.List.{length-map}
+use Rattle.std.proofs.lemmas.List.Sums.{sum_by-take-le, sum-map}
+use Rattle.std.proofs.lemmas.Option.{same_Some, slice_get-map, slice_get_within}
 use Rattle.trio_types.specs.declared.spec.Item.{Item}
 use Rattle.trio_types.specs.declared.formula.SignedTerm.{SignedTerm, out-SignedTerm}
 use Rattle.trio_types.specs.declared.formula.Term.{Term}
 use Rattle.trio_types.specs.declared.formula.Term.TheVariants as term
 use Rattle.trio_types.specs.declared.formula.Term.TheOpen as open_term
-use Rattle.trio_types.specs.World.{World, values_in, size_of}
-use Rattle.trio_types.specs.Values.{value, index_of, indexes, cell_of_item, plus, sum_of}
-use Rattle.trio_types.specs.Cells.{Cell, the_cell, cells_of, are_indexes, number_at, cell_values, IsTable}
-use Rattle.trio_types.specs.Kinds.{Gathered, gathered, gather_term, Kind, no_kind, number, truth_value, word, in_role, part, is_right, is_arity, has_kind, kind_in, kind_if_constant, kind_of_constant, args_of, argument_uses}
-use Rattle.trio_types.specs.Bounds.{Bound, bound_of, bounded, most_of, greatest, domain_bound, variable_bound, item_bound}
+use Rattle.trio_types.specs.World.{World, values_in}
+use Rattle.trio_types.specs.Kinds.{Gathered, gathered, gather_term, in_role, part, is_right, is_arity, has_kind, kind_of_constant, args_of, argument_uses}
+use Rattle.trio_types.specs.Bounds.{Bound, bound_of, bounded, most_of, domain_bound, variable_bound, item_bound}
 use Rattle.trio_types.proofs.Lists.{all_right, all_flat, get_within, map-map}
-use Rattle.trio_types.proofs.Domains.{first_of, size_at, value_of_index, index_below}
-use Rattle.trio_types.proofs.CellNumbers.{one_more, values_from_item}
-use Rattle.trio_types.proofs.CellOrder.{entry_is_value}
-use Rattle.trio_types.proofs.ValueAt.{value-Read}
 use Rattle.trio_types.proofs.KindsAt.{gathered-Value, gathered-Var, gathered-Read, gathered-Sum, gathered-Times}
 use Rattle.trio_types.proofs.BoundsAt.{bound_of-Number, bound_of-Value, bound_of-Var, bound_of-Read, bound_of-Sum, bound_of-Times}
-use mir.Val.{SFits}
 use Rattle.trio_types.proofs.Reading.{constant_value, domain_above, greatest_above}
-use Rattle.trio_types.proofs.Bounded.{nat_abs_neg, near_of}
 use Rattle.history_check.specs.Fits.{AreValues, TermFits, IsWithin, IsBounded}
 
 -- the parts of a bound

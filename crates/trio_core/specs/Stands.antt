@@ -1,4 +1,4 @@
--- What the roots of a core demand, when a core stands for a specification, and which nodes may be asked for.
+-- The truth of a core, when a core stands for a specification, and which nodes may be asked for.
 use Rattle.std.specs.Prelude.{◌≡◌, ℕ, ◌<◌, ℤ, Bool, true, false, ◌&&◌, ◌==◌, nat_le, int_le, List, [], ◌∷◌, Option, None, Some, length, slice_get}
 use Rattle.std.specs.List.{list_all}
 use Rattle.trio_types.specs.declared.spec.Axiom.{Axiom}

@@ -18,7 +18,7 @@ use Rattle.trio_core.specs.declared.nodes.Three.TheVariants as three
 use Rattle.trio_core.specs.Core.{numbers, in_row}
 use Rattle.trio_core.specs.Sets.{members}
 
--- that there is none is known first
+-- of two values: that one of them is not there is known whatever the other is, and the result only where both are known
 abbrev pub known_both : {X Y Z : Type 0} → (X → Y → Z) → Known X → Known Y → Known Z
 known_both f Nothing y = Nothing
 known_both f Several Nothing = Nothing
@@ -28,6 +28,7 @@ known_both f (One x) Nothing = Nothing
 known_both f (One x) Several = Several
 known_both f (One x) (One y) = One (f x y)
 
+-- of one value
 abbrev pub known_map : {X Y : Type 0} → (X → Y) → Known X → Known Y
 known_map f Nothing = Nothing
 known_map f Several = Several
@@ -42,11 +43,12 @@ abbrev pub known_of_option : {X : Type 0} → Option X → Known X
 known_of_option None = Nothing
 known_of_option (Some x) = One x
 
+-- of several values together
 abbrev pub known_all : List (Known ℤ) → Known (List (Option ℤ))
 known_all [] = One []
 known_all (x ∷ xs) = known_both (λ z zs. Some z ∷ zs) x (known_all xs)
 
--- the value of this index
+-- by the indexes that a cell's value may have
 abbrev pub known_of_members : List ℤ → List ℕ → Known ℤ
 known_of_members values [] = Nothing
 known_of_members values (v ∷ []) = known_of_option (slice_get values v)
@@ -84,17 +86,20 @@ term_value3 world (open_term.Times n x) e look i = known_map (λ z. pos n *ℤ z
 abbrev pub part_value3 : SignedTerm-F Value3 Value3 → Value3
 part_value3 part e look i = if part.minus then known_map neg_ℤ (part.term e look i) else part.term e look i
 
+-- what is known of the value of a term
 unfoldable pub value3 : World → Term → Value3
 value3 world = fold-Term Value3 Value3 (term_value3 world) part_value3
 
--- truth, by the same
+-- a truth that may not be known, by the same
 abbrev pub Truth3 : Type 0
 Truth3 = List ℤ → (Cell → Known ℤ) → ℕ → Three
 
+-- a truth that is known
 abbrev pub sure : Bool → Three
 sure true = three.True
 sure false = three.False
 
+-- Kleene's strong tables
 abbrev pub not3 : Three → Three
 not3 three.False = three.True
 not3 three.Unknown = three.Unknown
@@ -114,6 +119,7 @@ or3 three.Unknown three.True = three.True
 or3 three.Unknown three.Unknown = three.Unknown
 or3 three.Unknown three.False = three.Unknown
 
+-- all and some of a list
 abbrev pub all3 : {X : Type 0} → (X → Three) → List X → Three
 all3 p [] = three.True
 all3 p (x ∷ xs) = and3 (p x) (all3 p xs)
@@ -131,6 +137,7 @@ three_of_known (One b) = sure b
 abbrev pub relates3 : Rel → Known ℤ → Known ℤ → Three
 relates3 r x y = three_of_known (known_both (compares r) x y)
 
+-- at the instant at a distance, and False where it is outside time
 abbrev pub at_distance3 : World → ℕ → Known ℤ → (ℕ → Three) → Three
 at_distance3 world i Nothing p = three.False
 at_distance3 world i Several p = three.Unknown
