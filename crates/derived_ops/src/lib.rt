@@ -1,0 +1,5 @@
+//! The rewriting of specifications into cores.
+#![tactic(auto)]
+
+mod joint;
+
