@@ -1,0 +1,9 @@
+-- The lemmas of the crate.
+mod FormulaCases
+mod Told
+mod Renaming
+mod Seeking
+mod Joins
+mod WrittenAt
+mod Operators
+mod Keeps
