@@ -7,3 +7,6 @@ mod Joins
 mod WrittenAt
 mod Operators
 mod Keeps
+mod Writing
+mod Weights
+mod Halves

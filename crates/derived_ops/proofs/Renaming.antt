@@ -18,14 +18,12 @@ use Rattle.trio_types.proofs.ValueAt.{signed_value, value-Number, value-Value, v
 use Rattle.trio_core.proofs.TermCases.{Each, term_of, TermCases, every_term}
 use Rattle.derived_ops.specs.declared.joint.Way.{Way}
 use Rattle.derived_ops.specs.declared.joint.Way.TheVariants as way
+use Rattle.derived_ops.specs.Terms.{part_of}
 use Rattle.derived_ops.specs.Rewriting.{Levels, variable_at, term_renamed, part_renamed, renamed, minus, towards}
 
 -- the terms, form by form
 abbrev signed_renamed : Levels → SignedTerm → SignedTerm
 signed_renamed ls = fold-SignedTerm Term SignedTerm (term_renamed ls) part_renamed
-
-abbrev pub part_of : Levels → SignedTerm → SignedTerm
-part_of ls p = roll-SignedTerm (record { minus = (out-SignedTerm p).minus; term = renamed ls (out-SignedTerm p).term })
 
 renamed_at : (ls : Levels) {f : Term} (x : Term-F Term SignedTerm) → roll-Term x ≡ f → renamed ls f ≡ term_renamed ls (map-Term Term SignedTerm Term SignedTerm (renamed ls) (signed_renamed ls) x)
 unfolding renamed
