@@ -10,3 +10,6 @@ mod Keeps
 mod Writing
 mod Weights
 mod Halves
+mod Rounds
+mod Placed
+mod TermsPlaced

@@ -97,7 +97,7 @@ numbers_of_kind (kind.Range low high) = refl
 numbers_of_kind (kind.Words words) =
     ap (integers (pos 0)) (whole_number (((pos (length words) -ℤ pos 1) +ℤ pos 1) -ℤ pos 0) (length words) (omega (arith, ints)))
 
-numbers_of_domain : (w : World) (d : ℕ) → numbers (range_of_domain w d).low (range_of_domain w d).high ≡ values_in w.domains d
+pub numbers_of_domain : (w : World) (d : ℕ) → numbers (range_of_domain w d).low (range_of_domain w d).high ≡ values_in w.domains d
 unfolding integers
 numbers_of_domain w d = at_option (slice_get w.domains d) refl
   where
