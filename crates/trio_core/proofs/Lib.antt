@@ -4,7 +4,6 @@ pub mod Value3At
 pub mod Flat
 pub mod Declared
 pub mod Standing
-pub mod TermsAt
 mod Stays
 mod Sure
 mod Looks
