@@ -13,3 +13,4 @@ mod Halves
 mod Rounds
 mod Placed
 mod TermsPlaced
+mod WrittenFits
