@@ -14,3 +14,4 @@ mod Rounds
 mod Placed
 mod TermsPlaced
 mod WrittenFits
+mod Making

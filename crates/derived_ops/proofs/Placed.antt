@@ -65,7 +65,7 @@ first_placed rounds n x xs placed =
     let same : n ≡ n + 0 = omega arith in get_or_from_slice_get rounds n x [] (ap (slice_get rounds) same ∙ placed.at 0 x refl)
 
 -- the ranges round the last node
-last_placed : (rounds : List Ranges) (s : Shape) (n : ℕ) (rs : Ranges) → Placed rounds n (rounds_of s rs) → slice_index_or rounds (n + before_last s) [] ≡ rs
+pub last_placed : (rounds : List Ranges) (s : Shape) (n : ℕ) (rs : Ranges) → Placed rounds n (rounds_of s rs) → slice_index_or rounds (n + before_last s) [] ≡ rs
 last_placed rounds (atom r x y) n rs placed = let same : n + 0 ≡ n = omega arith in ap (λ a. slice_index_or rounds a []) same ∙ first_placed rounds n rs [] placed
 last_placed rounds (no s) n rs placed =
     first_placed rounds (n + (before_last s + 1)) rs [] (placed_right rounds n (n + (before_last s + 1)) (rounds_of s rs) (rs ∷ []) (omega (arith, length-rounds_of s rs)) placed)
