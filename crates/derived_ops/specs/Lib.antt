@@ -1,0 +1,6 @@
+pub mod Shape
+pub mod Rewriting
+pub mod Rewritten
+pub mod Terms
+pub mod Distances
+pub mod Adding

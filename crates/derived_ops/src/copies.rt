@@ -1,0 +1,185 @@
+//! Copies of the parts of specifications; only want of memory refuses them.
+ghost use Rattle.std.specs.Prelude.{◌≡◌, IfOk};
+
+use sqlite_items::Boxed;
+use std::alloc::{AllocError, Global};
+use trio_types::{
+    Domain, DomainKind, Domains, Formula, Formulas, Item, Items, List, Name, Names, SignedTerm,
+    SignedTerms, Term, Terms,
+};
+
+pub fn copied_domains(alloc: Global, domains: &[Domain]) -> Result<Domains, AllocError>
+    ensures { IfOk result (λ made. made ≡ domains.now) }
+{
+    let mut made = Vec::new(alloc);
+    for domain in domains {
+        made.push(copied_domain(alloc, domain)?)?;
+    }
+    Ok(List::from_vec(made))
+}
+
+fn copied_domain(alloc: Global, domain: &Domain) -> Result<Domain, AllocError>
+    ensures { IfOk result (λ made. made ≡ domain.now) }
+{
+    let name = domain.name.copy(alloc)?;
+    let kind = copied_kind(alloc, &domain.kind)?;
+    Ok(Domain { name, kind })
+}
+
+fn copied_kind(alloc: Global, kind: &DomainKind) -> Result<DomainKind, AllocError>
+    ensures { IfOk result (λ made. made ≡ kind.now) }
+{
+    match kind {
+        DomainKind::Bool => Ok(DomainKind::Bool),
+        DomainKind::Range(low, high) => Ok(DomainKind::Range(*low, *high)),
+        DomainKind::Words(words) => {
+            let words = copied_names(alloc, words.as_slice())?;
+            Ok(DomainKind::Words(words))
+        }
+    }
+}
+
+fn copied_names(alloc: Global, names: &[Name]) -> Result<Names, AllocError>
+    ensures { IfOk result (λ made. made ≡ names.now) }
+{
+    let mut made = Vec::new(alloc);
+    for name in names {
+        made.push(name.copy(alloc)?)?;
+    }
+    Ok(List::from_vec(made))
+}
+
+pub fn copied_items(alloc: Global, items: &[Item]) -> Result<Items, AllocError>
+    ensures { IfOk result (λ made. made ≡ items.now) }
+{
+    let mut made = Vec::new(alloc);
+    for item in items {
+        made.push(copied_item(alloc, item)?)?;
+    }
+    Ok(List::from_vec(made))
+}
+
+fn copied_item(alloc: Global, item: &Item) -> Result<Item, AllocError>
+    ensures { IfOk result (λ made. made ≡ item.now) }
+{
+    let name = item.name.copy(alloc)?;
+    let args = item.args.copy(alloc)?;
+    Ok(Item {
+        name,
+        input: item.input,
+        args,
+        value: item.value,
+    })
+}
+
+/// A formula's copy.
+#[cycle(copied_formulas)]
+pub fn copied_formula(alloc: Global, formula: &Formula) -> Result<Formula, AllocError>
+    ensures { IfOk result (λ made. made ≡ formula.now) }
+{
+    match formula {
+        Formula::Lone(term) => Ok(Formula::Lone(copied_term(alloc, term)?)),
+        Formula::Compare(rel, left, right) => {
+            let left = copied_term(alloc, left)?;
+            let right = copied_term(alloc, right)?;
+            Ok(Formula::Compare(*rel, left, right))
+        }
+        Formula::Not(part) => Ok(Formula::Not(copied_part(alloc, part.get())?)),
+        Formula::And(parts) => Ok(Formula::And(copied_formulas(alloc, parts.as_slice())?)),
+        Formula::Or(parts) => Ok(Formula::Or(copied_formulas(alloc, parts.as_slice())?)),
+        Formula::Implies(left, right) => {
+            let left = copied_part(alloc, left.get())?;
+            let right = copied_part(alloc, right.get())?;
+            Ok(Formula::Implies(left, right))
+        }
+        Formula::Iff(left, right) => {
+            let left = copied_part(alloc, left.get())?;
+            let right = copied_part(alloc, right.get())?;
+            Ok(Formula::Iff(left, right))
+        }
+        Formula::All(name, domain, body) => {
+            let name = name.copy(alloc)?;
+            let body = copied_part(alloc, body.get())?;
+            Ok(Formula::All(name, *domain, body))
+        }
+        Formula::Ex(name, domain, body) => {
+            let name = name.copy(alloc)?;
+            let body = copied_part(alloc, body.get())?;
+            Ok(Formula::Ex(name, *domain, body))
+        }
+        Formula::One(op, part) => Ok(Formula::One(*op, copied_part(alloc, part.get())?)),
+        Formula::Far(op, part, distance) => {
+            let part = copied_part(alloc, part.get())?;
+            let distance = copied_term(alloc, distance)?;
+            Ok(Formula::Far(*op, part, distance))
+        }
+        Formula::Pair(op, first, second) => {
+            let first = copied_part(alloc, first.get())?;
+            let second = copied_part(alloc, second.get())?;
+            Ok(Formula::Pair(*op, first, second))
+        }
+    }
+}
+
+#[cycle(copied_formulas)]
+fn copied_part(alloc: Global, part: &Formula) -> Result<Boxed<Formula>, AllocError>
+    ensures { IfOk result (λ made. made ≡ part.now) }
+{
+    Boxed::new(alloc, copied_formula(alloc, part)?)
+}
+
+#[cycle(copied_formulas)]
+fn copied_formulas(alloc: Global, formulas: &[Formula]) -> Result<Formulas, AllocError>
+    ensures { IfOk result (λ made. made ≡ formulas.now) }
+{
+    let mut made = Vec::new(alloc);
+    for formula in formulas {
+        made.push(copied_formula(alloc, formula)?)?;
+    }
+    Ok(List::from_vec(made))
+}
+
+#[cycle(copied_terms)]
+fn copied_term(alloc: Global, term: &Term) -> Result<Term, AllocError>
+    ensures { IfOk result (λ made. made ≡ term.now) }
+{
+    match term {
+        Term::Number(number) => Ok(Term::Number(*number)),
+        Term::Value(domain, index) => Ok(Term::Value(*domain, *index)),
+        Term::Var(level) => Ok(Term::Var(*level)),
+        Term::Read(item, arguments) => {
+            let arguments = copied_terms(alloc, arguments.as_slice())?;
+            Ok(Term::Read(*item, arguments))
+        }
+        Term::Sum(parts) => Ok(Term::Sum(copied_parts(alloc, parts.as_slice())?)),
+        Term::Times(number, factor) => {
+            let factor = copied_term(alloc, factor.get())?;
+            Ok(Term::Times(*number, Boxed::new(alloc, factor)?))
+        }
+    }
+}
+
+#[cycle(copied_terms)]
+fn copied_terms(alloc: Global, terms: &[Term]) -> Result<Terms, AllocError>
+    ensures { IfOk result (λ made. made ≡ terms.now) }
+{
+    let mut made = Vec::new(alloc);
+    for term in terms {
+        made.push(copied_term(alloc, term)?)?;
+    }
+    Ok(List::from_vec(made))
+}
+
+#[cycle(copied_terms)]
+fn copied_parts(alloc: Global, parts: &[SignedTerm]) -> Result<SignedTerms, AllocError>
+    ensures { IfOk result (λ made. made ≡ parts.now) }
+{
+    let mut made = Vec::new(alloc);
+    for part in parts {
+        made.push(SignedTerm {
+            minus: part.minus,
+            term: copied_term(alloc, &part.term)?,
+        })?;
+    }
+    Ok(List::from_vec(made))
+}

@@ -1,0 +1,15 @@
+//! How parts are joined, and which way a distance goes.
+
+/// A conjunction or a disjunction.
+#[derive(Clone, Copy, Debug, PartialEq, Eq)]
+pub enum Joint {
+    And,
+    Or,
+}
+
+/// Ahead in time or back.
+#[derive(Clone, Copy, Debug, PartialEq, Eq)]
+pub enum Way {
+    Ahead,
+    Back,
+}
