@@ -1,1 +1,4 @@
 -- The lemmas of the crate.
+mod Contained
+mod Listed
+pub mod Modeled

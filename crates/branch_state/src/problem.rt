@@ -19,9 +19,11 @@ pub struct Problem {
 }
 
 impl Model for Problem {
-    ghost use Rattle.branch_state.specs.Posed.{Posed, posed, IsPosed};
+    ghost use Rattle.branch_state.specs.Posed.{Posed, posed, posed_code, IsPosed};
 
     ghost Value = { Posed };
+
+    ghost coded = { posed_code };
 
     ghost view = { λ it. posed it.spec it.core it.given };
 

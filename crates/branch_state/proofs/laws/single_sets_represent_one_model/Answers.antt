@@ -1,0 +1,5 @@
+-- The answer to the goal of `single_sets_represent_one_model`.
+use Rattle.branch_state.proofs.laws.single_sets_represent_one_model.Goals as goal
+
+pub returns : goal.returns
+returns c = ?
