@@ -2,3 +2,6 @@
 mod Contained
 mod Listed
 pub mod Modeled
+mod SetsFit
+mod Rooted
+mod Singled
