@@ -5,3 +5,4 @@ pub mod Modeled
 mod SetsFit
 mod Rooted
 mod Singled
+mod CodeReads

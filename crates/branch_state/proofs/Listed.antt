@@ -67,7 +67,7 @@ pub tables_are_all : (w : World) (table : List ℕ) → Contains (all_tables w) 
 tables_are_all w table = (
   λ has.
       let r = table_below w (cells_of w) table
-          (All-contains (λ vs. are_below (map (cell_size w) (cells_of w)) vs ≡ true) (all_tables w) table (lists_are (map (cell_size w) (cells_of w))) has) in
+      (All-contains (λ vs. are_below (map (cell_size w) (cells_of w)) vs ≡ true) (all_tables w) table (lists_are (map (cell_size w) (cells_of w))) has) in
       record { whole = r.0; within = r.1 },
   λ is. lists_have (map (cell_size w) (cells_of w)) table (below_table w (cells_of w) table is.whole is.within),
 )

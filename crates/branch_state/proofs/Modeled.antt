@@ -1,5 +1,5 @@
 -- The models: which tables they are, and their order.
-use Rattle.std.proofs.Common.{◌≡◌, ◌↔◌, ℕ, ◌<◌, true, List, map, length, get_or, All, Contains, arith}
+use Rattle.std.proofs.Common.{◌↔◌, ℕ, List, map, get_or, All, Contains}
 use Rattle.std.specs.List.Sorted.{IsStrictlySortedBy}
 use Rattle.std.specs.Cmp.Lexicographic.{slice_cmp}
 use Rattle.std.specs.Ordering.{nat_cmp}

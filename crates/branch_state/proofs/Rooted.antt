@@ -1,20 +1,19 @@
 -- The root: it fits, and represents the models.
-use Rattle.std.proofs.Common.{◌≡◌, ℕ, zero, suc, ◌+◌, ◌<◌, ◌≤◌, Bool, true, false, ◌&&◌, nat_lt, nat_le, List, [], ◌∷◌, ◌++◌, map, length, get_or, All, Option, None, Some, slice_get, refl, sym, ap, ◌∙◌, arith}
+use Rattle.std.proofs.Common.{◌≡◌, ℕ, ◌<◌, true, ◌&&◌, nat_lt, List, [], ◌∷◌, length, All, Option, None, Some, slice_get, refl, sym, ap, ◌∙◌, arith}
 use Rattle.std.proofs.Math.Path.{ap₂}
-use Rattle.std.specs.List.{list_all, flat_map, range_with_len}
+use Rattle.std.specs.List.{list_all, flat_map}
 use Rattle.std.proofs.lemmas.Bool.{and_parts, and_from, false≢true, ltb-true, le-leb}
 use Rattle.std.proofs.lemmas.List.Elements.{All-nil, All-cons, All-weaker, All-map}
 use Rattle.std.proofs.lemmas.List.Folds.{list_all-map, list_all-append}
 use Rattle.trio_types.specs.World.{World, instants_of}
-use Rattle.trio_types.specs.Cells.{cells_of}
 use Rattle.trio_types.specs.Verdict.{instants_asked}
-use Rattle.trio_types.specs.WellFormed.{is_well_formed, instant_fits}
+use Rattle.trio_types.specs.WellFormed.{instant_fits}
 use Rattle.trio_types.proofs.Lists.{get_within}
 use Rattle.trio_core.specs.declared.nodes.Node.{Node}
 use Rattle.trio_core.specs.declared.nodes.Node.TheVariants as node
 use Rattle.trio_core.specs.declared.nodes.Root.{Root}
 use Rattle.trio_core.specs.declared.nodes.Core.{Core}
-use Rattle.trio_core.specs.Core.{numbers, core_truth, core_truth_from}
+use Rattle.trio_core.specs.Core.{numbers, core_truth}
 use Rattle.trio_core.specs.CoreShape.{Ranges, same_ranges, ranges_round, root_fits, is_core}
 use Rattle.trio_core.specs.Stands.{NodeDemand, demands_of_root, demands_of_core, world_of_core, is_core_true_in, lie_in, from_fits, NodeAsked}
 use Rattle.trio_core.proofs.Standing.{stands_law}

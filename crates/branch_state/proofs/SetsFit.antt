@@ -1,10 +1,10 @@
 -- Sets of all indexes and of one: they fit their cells, and lie within the root's.
-use Rattle.std.proofs.Common.{◌≡◌, ℕ, zero, suc, ◌+◌, ◌-◌, ◌^◌, ◌<◌, Bool, true, false, ◌&&◌, ◌==◌, nat_lt, List, [], ◌∷◌, map, length, Option, None, Some, slice_get, zip, filter, refl, sym, ap, ◌∙◌, arith}
+use Rattle.std.proofs.Common.{◌≡◌, ℕ, ◌-◌, ◌^◌, ◌<◌, Bool, true, nat_lt, List, [], ◌∷◌, map, length, Option, None, Some, zip, refl, sym, ap, ◌∙◌, arith}
 use Rattle.std.specs.Int.{bit_at}
 use Rattle.std.specs.List.{list_all, range_with_len}
 use Rattle.std.proofs.Math.Logic.{⊎_elim}
 use Rattle.std.proofs.Math.Pow.{pow-lt, ones_lt}
-use Rattle.std.proofs.lemmas.Bool.{and_parts, and_from, false≢true, ltb-true, lt-ltb, eqb-true, eq-eqb, cases_eq}
+use Rattle.std.proofs.lemmas.Bool.{and_parts, and_from, ltb-true, lt-ltb, eqb-true, eq-eqb, cases_eq}
 use Rattle.std.proofs.lemmas.Nat.{pow_pos}
 use Rattle.std.proofs.lemmas.Nat.Bits.{bit_at_ones, bit_at-pow_same, bit_at-pow_other}
 use Rattle.std.proofs.lemmas.Option.{slice_get_within}
@@ -15,8 +15,8 @@ use Rattle.trio_types.specs.Verdict.{parts_of, world_of}
 use Rattle.trio_types.proofs.Lists.{all_from_each}
 use Rattle.trio_types.proofs.Specs.{formed, value_domain}
 use Rattle.trio_types.proofs.CellNumbers.{some_size, cell_item, size_from_item}
-use Rattle.trio_core.specs.Sets.{set_has, members, is_set, is_within, AreSets, Shrink}
-use Rattle.history_table.specs.Fitting.{is_below, is_given, extends, IsGiven}
+use Rattle.trio_core.specs.Sets.{set_has, is_set, is_within, Shrink}
+use Rattle.history_table.specs.Fitting.{is_below, is_given, extends}
 use Rattle.branch_state.specs.Posed.{Posed, IsPosed, world_of_problem}
 use Rattle.branch_state.specs.Branches.{full_set, single_set, root_set, root_sets, lies_in}
 use Rattle.branch_state.proofs.Contained.{all_filtered}

@@ -1,6 +1,5 @@
 -- The branch of a model's single sets: it fits, and represents that model alone.
-use Rattle.std.proofs.Common.{◌≡◌, ℕ, true, ◌&&◌, List, [], ◌∷◌, map, length, All, ◌∙◌, sym, refl}
-use Rattle.std.specs.List.{list_all}
+use Rattle.std.proofs.Common.{◌≡◌, ℕ, true, List, [], ◌∷◌, map, ◌∙◌, sym, refl}
 use Rattle.std.specs.Cmp.Lexicographic.{slice_cmp}
 use Rattle.std.specs.Ordering.{nat_cmp}
 use Rattle.std.proofs.lemmas.Bool.{and_parts, and_from}
@@ -8,7 +7,7 @@ use Rattle.std.proofs.lemmas.List.Elements.{All-nil, All-weaker}
 use Rattle.trio_lists.proofs.Unique.{filter_one, lexical}
 use Rattle.branch_state.specs.Posed.{Posed, IsPosed}
 use Rattle.branch_state.specs.Models.{models, IsModel}
-use Rattle.branch_state.specs.Branches.{single_set, lies_in, want_holds, keeps, reps, single_branch, WantFits, Fits}
+use Rattle.branch_state.specs.Branches.{single_set, lies_in, keeps, reps, single_branch, WantFits, Fits}
 use Rattle.branch_state.proofs.Modeled.{models_law, models_are, models_sorted}
 use Rattle.branch_state.proofs.SetsFit.{singles_shrink, lies_in_singles, only_in_singles}
 

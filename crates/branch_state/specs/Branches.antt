@@ -1,5 +1,5 @@
 -- What a branch represents, which branches fit a problem, and the branches that are made from a problem and from a table.
-use Rattle.std.specs.Prelude.{◌≡◌, ℕ, ◌-◌, ◌^◌, ℤ, Bool, true, false, not, ◌&&◌, List, [], ◌∷◌, ◌++◌, Option, None, Some, map, filter}
+use Rattle.std.specs.Prelude.{ℕ, ◌-◌, ◌^◌, Bool, true, false, not, ◌&&◌, List, [], Option, None, Some, map, filter}
 use Rattle.std.specs.List.{All, list_all, flat_map, zip}
 use Rattle.trio_types.specs.World.{World}
 use Rattle.trio_types.specs.Cells.{cells_of, cell_size}
