@@ -20,8 +20,8 @@ use Rattle.trio_types.specs.WellFormed.{instant_fits}
 use Rattle.trio_types.specs.Verdict.{parts_of, world_of}
 use Rattle.trio_types.proofs.Lists.{each_of, all_right, all_flat, get_left, get_right}
 use Rattle.trio_types.proofs.Specs.{formed, some_instant, within_limit}
+use Rattle.trio_types.proofs.Reading.{greatest_above}
 use Rattle.history_check.specs.Fits.{FormulaFits, AskedInside}
-use Rattle.history_check.proofs.TermsFit.{greatest_above}
 use Rattle.history_check.proofs.FormulasFit.{counted}
 
 pub axiom_fits : (spec : Spec) (k : ℕ) (a : Axiom) → slice_get spec.axioms k ≡ Some a → FormulaFits (world_of spec) a.formula []

@@ -30,8 +30,8 @@ use Rattle.trio_types.proofs.KindsAt.{uses-Lone, uses-Compare, uses-Not, uses-An
 use Rattle.trio_types.proofs.BoundsAt.{greatest_bound-Lone, greatest_bound-Compare, greatest_bound-Not, greatest_bound-And, greatest_bound-Or, greatest_bound-Implies, greatest_bound-Iff, greatest_bound-All, greatest_bound-Ex, greatest_bound-One, greatest_bound-Far, greatest_bound-Pair}
 use Rattle.trio_types.proofs.CountsAt.{nest_of-Lone, nest_of-Compare, nest_of-Not, nest_of-And, nest_of-Or, nest_of-Implies, nest_of-Iff, nest_of-All, nest_of-Ex, nest_of-One, nest_of-Far, nest_of-Pair, instances-Lone, instances-Compare, instances-Not, instances-And, instances-Or, instances-Implies, instances-Iff, instances-All, instances-Ex, instances-One, instances-Far, instances-Pair}
 use Rattle.trio_types.proofs.ShapeAt.{is_shaped-And, is_shaped-Or}
+use Rattle.trio_types.proofs.Reading.{greatest_above}
 use Rattle.history_check.specs.Fits.{AreValues, TermFits, FormulaFits, AllFit, QuantifierFits}
-use Rattle.history_check.proofs.TermsFit.{greatest_above}
 
 -- a group has no fewer open brackets than the text by itself
 NoFewer : Formula → Type 0

@@ -1,5 +1,5 @@
 -- The instants that windows select.
-use Rattle.std.proofs.Common.{◌≡◌, ℕ, zero, suc, ◌<◌, ◌≤◌, ℤ, pos, negsuc, neg_ℤ, nat_abs, ◌+ℤ◌, ◌-ℤ◌, ◌<ℤ◌, ◌≤ℤ◌, Bool, true, false, ◌&&◌, nat_lt, nat_le, Some, refl, sym, ap, ◌∙◌, arith, Decides}
+use Rattle.std.proofs.Common.{◌≡◌, ℕ, ◌<◌, ◌≤◌, ℤ, pos, negsuc, nat_abs, ◌+ℤ◌, ◌-ℤ◌, ◌<ℤ◌, ◌≤ℤ◌, Bool, true, false, ◌&&◌, nat_lt, nat_le, Some, refl, sym, ap, ◌∙◌, arith, Decides}
 use Rattle.std.specs.Prelude.{int_lt, int_le}
 use Rattle.std.specs.Ordering.{int_eq}
 use Rattle.std.proofs.lemmas.Bool.{false≢true, and_parts, and_from, false_from_ne_true, leb-true, ltb-true, lt-ltb, le-leb}
@@ -148,20 +148,6 @@ pub absolute : (z : ℤ) → pos 0 ≤ℤ z → pos (nat_abs z) ≡ z
 absolute (pos n) from = refl
 absolute (negsuc n) from = absurd (omega (arith, ints, from))
 
--- a bound on both sides
-pub record Near (d : ℤ) : Type 0 where
-  pub not_far_back : neg_ℤ (pos 1000000000000) ≤ℤ d
-  pub not_far_on : d ≤ℤ pos 1000000000000
-
-pub near_of : (d : ℤ) → nat_abs d ≤ 1000000000000 → Near d
-near_of (pos n) small = record { not_far_back = omega (arith, ints); not_far_on = omega (arith, ints) }
-near_of (negsuc n) small = record { not_far_back = omega (arith, ints); not_far_on = omega (arith, ints) }
-
 pub selects_of : (n from to : ℕ) (q : ℕ → Bool) (low high x y : ℤ) → Selects n from to (is_between x y) → x ≡ low → y ≡ high → ((j : ℕ) → q j ≡ is_between low high j) → Selects n from to q
 selects_of n from to q low high x y s l h same =
     selects_as n from to (is_between x y) q (λ j. same j ∙ sym (ap (λ z. is_between z y j) l ∙ ap (λ z. is_between low z j) h)) s
-
-pub nat_abs_neg : (d : ℤ) → nat_abs (neg_ℤ d) ≡ nat_abs d
-nat_abs_neg (pos zero) = refl
-nat_abs_neg (pos (suc n)) = refl
-nat_abs_neg (negsuc n) = refl

@@ -5,8 +5,11 @@ use Rattle.trio_types.specs.Cells.{Cell, number_at}
 use Rattle.trio_core.specs.declared.nodes.Core.{Core}
 use Rattle.trio_core.specs.declared.nodes.Three.{Three}
 use Rattle.trio_core.specs.Core.{core_truth, core_truth_from}
-use Rattle.trio_core.specs.Three.{Known, known_of_option, known_at, sure, core_truth3_by, all3}
-use Rattle.trio_core.specs.Stands.{NodeDemand, world_of_core, demands_of_core, is_core_true_in}
+use Rattle.trio_core.specs.declared.nodes.Known.{Known}
+use Rattle.trio_core.specs.Three.{known_of_option, known_at, sure, core_truth3_by, all3}
+use Rattle.trio_core.specs.Stands.{world_of_core, root_truth, is_core_true_in}
+use Rattle.trio_core.specs.declared.nodes.Root.{Root}
+use Rattle.trio_types.specs.Verdict.{instants_asked}
 use Rattle.trio_core.specs.Laws.{TruthLaw, WholeTruthLaw, ShrinkLaw, WholeShrinkLaw, SingleLaw, WholeSingleLaw}
 use Rattle.trio_core.proofs.Stays.{Stays, stays_all, MoreKnown}
 use Rattle.trio_core.proofs.Sure.{IsKnown, sure_all}
@@ -40,21 +43,24 @@ pub single_law : SingleLaw
 single_law w nodes sets single a from e i =
     (core_truth_from w nodes a from e (only_table w sets) i, single_sure w nodes a from (known_at w sets) (only_table w sets) (single_known w sets single) e i)
 
--- the value of a core by what is known of cells
+-- the value of a root and of a core by what is known of cells
+abbrev root_by : Core → (Cell → Known ℤ) → Root → Three
+root_by core look root = all3 (λ i. core_truth3_by (world_of_core core) core.nodes root.node 0 [] look i) (instants_asked (world_of_core core) root.at)
+
 abbrev whole_by : Core → (Cell → Known ℤ) → Three
-whole_by core look = all3 (λ (d : NodeDemand). core_truth3_by (world_of_core core) core.nodes d.node 0 [] look d.instant) (demands_of_core core)
+whole_by core look = all3 (root_by core look) core.roots
 
 whole_stays : (core : Core) (look less : Cell → Known ℤ) → MoreKnown look less → Stays (whole_by core look) (whole_by core less)
 whole_stays core look less more =
-    stays_all (λ (d : NodeDemand). core_truth3_by (world_of_core core) core.nodes d.node 0 [] look d.instant)
-    (λ (d : NodeDemand). core_truth3_by (world_of_core core) core.nodes d.node 0 [] less d.instant)
-    (λ d. decided_stays (world_of_core core) core.nodes d.node 0 look less more [] d.instant) (demands_of_core core)
+    stays_all (root_by core look) (root_by core less)
+    (λ root. stays_all (λ i. core_truth3_by (world_of_core core) core.nodes root.node 0 [] look i) (λ i. core_truth3_by (world_of_core core) core.nodes root.node 0 [] less i)
+    (λ i. decided_stays (world_of_core core) core.nodes root.node 0 look less more [] i) (instants_asked (world_of_core core) root.at)) core.roots
 
 whole_sure : (core : Core) (look : Cell → Known ℤ) (table : List ℕ) → IsKnown (world_of_core core) look table → whole_by core look ≡ sure (is_core_true_in core table)
 whole_sure core look table known =
-    sure_all (λ (d : NodeDemand). core_truth3_by (world_of_core core) core.nodes d.node 0 [] look d.instant)
-    (λ (d : NodeDemand). core_truth (world_of_core core) core.nodes d.node [] table d.instant)
-    (λ d. single_sure (world_of_core core) core.nodes d.node 0 look table known [] d.instant) (demands_of_core core)
+    sure_all (root_by core look) (root_truth core table)
+    (λ root. sure_all (λ i. core_truth3_by (world_of_core core) core.nodes root.node 0 [] look i) (λ i. core_truth (world_of_core core) core.nodes root.node [] table i)
+    (λ i. single_sure (world_of_core core) core.nodes root.node 0 look table known [] i) (instants_asked (world_of_core core) root.at)) core.roots
 
 pub whole_truth_law : WholeTruthLaw
 whole_truth_law core sets table lies b is =

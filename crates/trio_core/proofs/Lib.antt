@@ -1,11 +1,17 @@
 -- The lemmas of the crate.
 pub mod TermCases
-pub mod Value3At
+pub mod TermsAt
 pub mod Flat
-pub mod Declared
+pub mod Ranges
 pub mod Standing
+pub mod Looks
+pub mod Sole
+pub mod NodesFit
+pub mod Decided
+mod Value3At
 mod Stays
 mod Sure
-mod Looks
 mod Nodes3
-mod Decided
+mod KnownAt
+mod TermsFit
+mod Evaluating

@@ -77,7 +77,7 @@ found_both p (c ∷ cells) (x ∷ xs) (y ∷ ys) xl yl =
     (cases_Bool (p c))
 
 -- elements of lists side by side
-zip_at : {X Y : Type 0} (xs : List X) (ys : List Y) (k : ℕ) (x : X) (y : Y) → slice_get xs k ≡ Some x → slice_get ys k ≡ Some y → slice_get (zip xs ys) k ≡ Some (x, y)
+pub zip_at : {X Y : Type 0} (xs : List X) (ys : List Y) (k : ℕ) (x : X) (y : Y) → slice_get xs k ≡ Some x → slice_get ys k ≡ Some y → slice_get (zip xs ys) k ≡ Some (x, y)
 zip_at [] ys k x y xt yt = absurd (none-some x xt)
 zip_at (u ∷ us) [] k x y xt yt = absurd (none-some y yt)
 zip_at (u ∷ us) (v ∷ vs) zero x y xt yt = rw (same_Some u x xt, same_Some v y yt) refl
@@ -112,13 +112,13 @@ at_range a zero v below = absurd (omega arith)
 at_range a (suc n) zero below = let e : a ≡ a + 0 = omega arith in ap Some e
 at_range a (suc n) (suc v) below = let e : (a + 1) + v ≡ a + suc v = omega arith in at_range (a + 1) n v (omega arith) ∙ ap Some e
 
-member_at : (size set v : ℕ) → v < size → set_has set v ≡ true → (j : ℕ) × (slice_get (members size set) j ≡ Some v)
+pub member_at : (size set v : ℕ) → v < size → set_has set v ≡ true → (j : ℕ) × (slice_get (members size set) j ≡ Some v)
 member_at size set v below has =
     let e : 0 + v ≡ v = omega arith in
     kept (set_has set) (range_with_len 0 size) v v (at_range 0 size v below ∙ ap Some e) has
 
 -- a set that is not empty has a member
-some_member : (size set : ℕ) → is_set size set ≡ true → members size set ≢ []
+pub some_member : (size set : ℕ) → is_set size set ≡ true → members size set ≢ []
 some_member size set is none =
     let both = and_parts (nat_lt 0 set) (nat_lt set (2 ^ size)) is in
     let zero_set : set ≡ 0 = same_from_bits_below size set 0 (ltb-true set (2 ^ size) both.1) (omega (arith, ltb-true 0 set both.0, ltb-true set (2 ^ size) both.1)) (λ v below. no_bit v below (cases_Bool (set_has set v))) in

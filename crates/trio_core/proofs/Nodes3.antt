@@ -7,7 +7,8 @@ use Rattle.trio_types.specs.Truth.{Truth}
 use Rattle.trio_core.specs.declared.nodes.Node.{Node}
 use Rattle.trio_core.specs.declared.nodes.Node.TheVariants as node
 use Rattle.trio_core.specs.Core.{numbers, never, part_truth, node_truth, truths_from, truth_of_option, core_truth_from}
-use Rattle.trio_core.specs.Three.{Known, Truth3, value3, sure, never3, part_truth3, node_truth3, truths3_from, truth3_of_option, core_truth3_by}
+use Rattle.trio_core.specs.declared.nodes.Known.{Known}
+use Rattle.trio_core.specs.Three.{Truth3, value3, sure, never3, part_truth3, node_truth3, truths3_from, truth3_of_option, core_truth3_by}
 use Rattle.trio_core.proofs.Stays.{MoreKnown, Stays, stays_same, stays_not, stays_and, stays_or, stays_any, stays_relates, stays_distance, value3_stays}
 use Rattle.trio_core.proofs.Sure.{IsKnown, sure_not, sure_and, sure_or, sure_any, sure_relates, sure_distance, value3_sure}
 

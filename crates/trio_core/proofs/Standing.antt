@@ -17,7 +17,7 @@ use Rattle.trio_core.specs.declared.nodes.Node.{Node}
 use Rattle.trio_core.specs.declared.nodes.Root.{Root}
 use Rattle.trio_core.specs.declared.nodes.Core.{Core}
 use Rattle.trio_core.specs.Core.{core_truth}
-use Rattle.trio_core.specs.Stands.{NodeDemand, demands_of_root, world_of_core, demands_of_core, RootStandsFor, StandsFor}
+use Rattle.trio_core.specs.Stands.{world_of_core, RootStandsFor, StandsFor}
 use Rattle.trio_core.specs.Laws.{StandsLaw}
 
 -- roots and axioms side by side
@@ -36,23 +36,22 @@ asked_inside w None fits k i there = let r = at_range 0 w.instants k i there in 
 asked_inside w (Some m) fits zero i there = omega (arith, same_Some m i there, ltb-true m w.instants fits)
 asked_inside w (Some m) fits (suc k) i there = absurd (none-some i there)
 
-abbrev node_holds : World → List Node → List ℕ → NodeDemand → Bool
-node_holds w nodes table d = core_truth w nodes d.node [] table d.instant
+abbrev root_holds : World → List Node → List ℕ → Root → Bool
+root_holds w nodes table root = list_all (λ i. core_truth w nodes root.node [] table i) (instants_asked w root.at)
 
 abbrev axiom_holds : World → List ℕ → Demand → Bool
 axiom_holds w table d = truth w d.axiom_.formula [] table d.instant
 
 one_root : (w : World) (nodes : List Node) (table : List ℕ) (root : Root) (number : ℕ) (claim : Axiom) → RootStandsFor w nodes root claim → instant_fits w.instants claim.at ≡ true →
-    list_all (node_holds w nodes table) (demands_of_root w root) ≡ list_all (axiom_holds w table) (demands_of_axiom w number claim)
+    root_holds w nodes table root ≡ list_all (axiom_holds w table) (demands_of_axiom w number claim)
 one_root w nodes table root number claim stands fits =
-    list_all-map (node_holds w nodes table) (λ i. record { node = root.node; instant = i }) (instants_asked w root.at)
-    ∙ ap (λ at. list_all (λ i. core_truth w nodes root.node [] table i) (instants_asked w at)) stands.at
+    ap (λ at. list_all (λ i. core_truth w nodes root.node [] table i) (instants_asked w at)) stands.at
     ∙ all_agree (λ i. core_truth w nodes root.node [] table i) (λ i. truth w claim.formula [] table i) (instants_asked w claim.at)
     (λ k i there. stands.same table i (asked_inside w claim.at fits k i there))
     ∙ sym (list_all-map (axiom_holds w table) (λ i. record { number = number; axiom_ = claim; instant = i }) (instants_asked w claim.at))
 
 in_row : (w : World) (nodes : List Node) (table : List ℕ) (number : ℕ) (roots : List Root) (claims : List Axiom) → StandInRow w nodes roots claims →
-    list_all (node_holds w nodes table) (flat_map (demands_of_root w) roots) ≡ list_all (axiom_holds w table) (flat_map (λ p. demands_of_axiom w p.0 p.1) (enumerate_from number claims))
+    list_all (root_holds w nodes table) roots ≡ list_all (axiom_holds w table) (flat_map (λ p. demands_of_axiom w p.0 p.1) (enumerate_from number claims))
 in_row w nodes table number [] [] row = refl
 in_row w nodes table number [] (c ∷ cs) row = absurd (omega (arith, row.as_many))
 in_row w nodes table number (r ∷ rs) [] row = absurd (omega (arith, row.as_many))
@@ -62,8 +61,7 @@ in_row w nodes table number (r ∷ rs) (c ∷ cs) row =
       each = λ k root claim rt ct. row.each (suc k) root claim rt ct;
       inside = λ k claim ct. row.inside (suc k) claim ct;
     } in
-    list_all-append (node_holds w nodes table) (demands_of_root w r) (flat_map (demands_of_root w) rs)
-    ∙ ap (λ b. b && list_all (node_holds w nodes table) (flat_map (demands_of_root w) rs)) (one_root w nodes table r number c (row.each 0 r c refl refl) (row.inside 0 c refl))
+    ap (λ b. b && list_all (root_holds w nodes table) rs) (one_root w nodes table r number c (row.each 0 r c refl refl) (row.inside 0 c refl))
     ∙ ap (λ b. list_all (axiom_holds w table) (demands_of_axiom w number c) && b) (in_row w nodes table (number + 1) rs cs rest)
     ∙ sym (list_all-append (axiom_holds w table) (demands_of_axiom w number c) (flat_map (λ p. demands_of_axiom w p.0 p.1) (enumerate_from (number + 1) cs)))
 
@@ -76,7 +74,7 @@ same_world core spec stands = made core.instants spec.instants core.domains spec
     made n m ds es is js a b c = rw (a, b, c) refl
 
 pub stands_law : StandsLaw
-unfolding demands_of_core demands_of
+unfolding demands_of
 stands_law core spec stands table =
     let w = world_of_core core in
     let same = same_world core spec stands in

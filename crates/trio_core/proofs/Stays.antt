@@ -9,57 +9,59 @@ use Rattle.trio_types.specs.Values.{read_cell}
 use Rattle.trio_types.specs.Truth.{compares, at_distance}
 use Rattle.trio_core.specs.declared.nodes.Three.{Three}
 use Rattle.trio_core.specs.declared.nodes.Three.TheVariants as three
-use Rattle.trio_core.specs.Three.{Known, nothing, several, one, known_both, known_map, known_then, known_all, known_of_cell, known_sum, value3, sure, not3, and3, or3, all3, any3, three_of_known, relates3, at_distance3}
+use Rattle.trio_core.specs.declared.nodes.Known.{Known}
+use Rattle.trio_core.specs.declared.nodes.Known.TheVariants.{Nothing, Several, One}
+use Rattle.trio_core.specs.Three.{known_both, known_map, known_then, known_all, known_of_cell, known_sum, value3, sure, not3, and3, or3, all3, any3, three_of_known, relates3, at_distance3}
 use Rattle.trio_core.proofs.TermCases.{Each, term_of, every_term}
 use Rattle.trio_core.proofs.Value3At.{signed_value3, value3-Number, value3-Value, value3-Var, value3-Read, value3-Sum, value3-Times}
 
 -- that there is none stays known, and which value it is
 pub record KnownStays {X : Type 0} (k l : Known X) : Type 0 where
-  pub none : k ≡ nothing → l ≡ nothing
-  pub same : (x : X) → k ≡ one x → l ≡ one x
+  pub none : k ≡ Nothing → l ≡ Nothing
+  pub same : (x : X) → k ≡ One x → l ≡ One x
 
 pub known_stays_same : {X : Type 0} (k l : Known X) → k ≡ l → KnownStays k l
 known_stays_same k l is = record { none = λ e. sym is ∙ e; same = λ x e. sym is ∙ e }
 
-pub stays_from_nothing : {X : Type 0} (l : Known X) → l ≡ nothing → KnownStays nothing l
+pub stays_from_nothing : {X : Type 0} (l : Known X) → l ≡ Nothing → KnownStays Nothing l
 stays_from_nothing l is = record { none = λ e. is; same = λ x e. absurd (differ x e) }
   where
-    differ : {X : Type 0} (x : X) → nothing ≡ one x → ⊥
+    differ : {X : Type 0} (x : X) → Nothing ≡ One x → ⊥
     differ x e = cc
 
-pub stays_from_several : {X : Type 0} (l : Known X) → KnownStays several l
+pub stays_from_several : {X : Type 0} (l : Known X) → KnownStays Several l
 stays_from_several {X} l = record { none = λ e. absurd (not_none e); same = λ x e. absurd (not_one x e) }
   where
-    not_none : {X : Type 0} → ◌≡◌ {A = Known X} several nothing → ⊥
+    not_none : {X : Type 0} → ◌≡◌ {A = Known X} Several Nothing → ⊥
     not_none e = cc
 
-    not_one : {X : Type 0} (x : X) → several ≡ one x → ⊥
+    not_one : {X : Type 0} (x : X) → Several ≡ One x → ⊥
     not_one x e = cc
 
-pub both_nothing : {X Y Z : Type 0} (f : X → Y → Z) (k : Known X) → known_both f k nothing ≡ nothing
-both_nothing f nothing = refl
-both_nothing f several = refl
-both_nothing f (one x) = refl
+pub both_nothing : {X Y Z : Type 0} (f : X → Y → Z) (k : Known X) → known_both f k Nothing ≡ Nothing
+both_nothing f Nothing = refl
+both_nothing f Several = refl
+both_nothing f (One x) = refl
 
 pub stays_both : {X Y Z : Type 0} (f : X → Y → Z) (k k' : Known X) (l l' : Known Y) → KnownStays k k' → KnownStays l l' →
     KnownStays (known_both f k l) (known_both f k' l')
-stays_both f nothing k' l l' s t = stays_from_nothing _ (rw (s.none refl) refl)
-stays_both f several k' nothing l' s t = stays_from_nothing _ (rw (t.none refl) (both_nothing f k'))
-stays_both f several k' several l' s t = stays_from_several _
-stays_both f several k' (one y) l' s t = stays_from_several _
-stays_both f (one x) k' nothing l' s t = stays_from_nothing _ (rw (t.none refl) (both_nothing f k'))
-stays_both f (one x) k' several l' s t = stays_from_several _
-stays_both f (one x) k' (one y) l' s t = known_stays_same _ _ (rw (s.same x refl, t.same y refl) refl)
+stays_both f Nothing k' l l' s t = stays_from_nothing _ (rw (s.none refl) refl)
+stays_both f Several k' Nothing l' s t = stays_from_nothing _ (rw (t.none refl) (both_nothing f k'))
+stays_both f Several k' Several l' s t = stays_from_several _
+stays_both f Several k' (One y) l' s t = stays_from_several _
+stays_both f (One x) k' Nothing l' s t = stays_from_nothing _ (rw (t.none refl) (both_nothing f k'))
+stays_both f (One x) k' Several l' s t = stays_from_several _
+stays_both f (One x) k' (One y) l' s t = known_stays_same _ _ (rw (s.same x refl, t.same y refl) refl)
 
 pub stays_map : {X Y : Type 0} (f : X → Y) (k k' : Known X) → KnownStays k k' → KnownStays (known_map f k) (known_map f k')
-stays_map f nothing k' s = stays_from_nothing _ (rw (s.none refl) refl)
-stays_map f several k' s = stays_from_several _
-stays_map f (one x) k' s = known_stays_same _ _ (rw (s.same x refl) refl)
+stays_map f Nothing k' s = stays_from_nothing _ (rw (s.none refl) refl)
+stays_map f Several k' s = stays_from_several _
+stays_map f (One x) k' s = known_stays_same _ _ (rw (s.same x refl) refl)
 
 pub stays_then : {X Y : Type 0} (f g : X → Known Y) → ((x : X) → KnownStays (f x) (g x)) → (k k' : Known X) → KnownStays k k' → KnownStays (known_then f k) (known_then g k')
-stays_then f g h nothing k' s = stays_from_nothing _ (rw (s.none refl) refl)
-stays_then f g h several k' s = stays_from_several _
-stays_then f g h (one x) k' s = rw (s.same x refl) (h x)
+stays_then f g h Nothing k' s = stays_from_nothing _ (rw (s.none refl) refl)
+stays_then f g h Several k' s = stays_from_several _
+stays_then f g h (One x) k' s = rw (s.same x refl) (h x)
 
 stays_all_known : {X : Type 0} (f g : X → Known ℤ) (xs : List X) → Each (λ x. KnownStays (f x) (g x)) xs → KnownStays (known_all (map f xs)) (known_all (map g xs))
 stays_all_known f g [] each = known_stays_same _ _ refl
@@ -171,15 +173,15 @@ stays_any p q each [] = stays_same _ _ refl
 stays_any p q each (x ∷ xs) = stays_or (p x) (q x) (any3 p xs) (any3 q xs) (each x) (stays_any p q each xs)
 
 stays_three : (k l : Known Bool) → KnownStays k l → Stays (three_of_known k) (three_of_known l)
-stays_three nothing l s = stays_same _ _ (rw (s.none refl) refl)
-stays_three several l s = stays_from_unknown _
-stays_three (one b) l s = stays_same _ _ (rw (s.same b refl) refl)
+stays_three Nothing l s = stays_same _ _ (rw (s.none refl) refl)
+stays_three Several l s = stays_from_unknown _
+stays_three (One b) l s = stays_same _ _ (rw (s.same b refl) refl)
 
 pub stays_relates : (r : Rel) (k k' l l' : Known ℤ) → KnownStays k k' → KnownStays l l' → Stays (relates3 r k l) (relates3 r k' l')
 stays_relates r k k' l l' s t = stays_three _ _ (stays_both (compares r) k k' l l' s t)
 
 pub stays_distance : (w : World) (i : ℕ) (k k' : Known ℤ) → KnownStays k k' → (p q : ℕ → Three) → ((j : ℕ) → Stays (p j) (q j)) →
     Stays (at_distance3 w i k p) (at_distance3 w i k' q)
-stays_distance w i nothing k' s p q each = stays_same _ _ (rw (s.none refl) refl)
-stays_distance w i several k' s p q each = stays_from_unknown _
-stays_distance w i (one d) k' s p q each = rw (s.same d refl) (stays_any p q each (at_distance w i (Some d)))
+stays_distance w i Nothing k' s p q each = stays_same _ _ (rw (s.none refl) refl)
+stays_distance w i Several k' s p q each = stays_from_unknown _
+stays_distance w i (One d) k' s p q each = rw (s.same d refl) (stays_any p q each (at_distance w i (Some d)))

@@ -14,7 +14,9 @@ use Rattle.trio_types.specs.Values.{value, index_of, indexes, cell_of_item, read
 use Rattle.trio_types.specs.Truth.{relates, at_distance, is_at_distance}
 use Rattle.trio_types.proofs.ValueAt.{signed_value, value-Number, value-Value, value-Var, value-Read, value-Sum, value-Times}
 use Rattle.trio_core.specs.declared.nodes.Three.{Three}
-use Rattle.trio_core.specs.Three.{Known, nothing, one, known_both, known_map, known_then, known_of_option, known_all, known_of_cell, known_sum, value3, sure, not3, and3, or3, all3, any3, relates3, at_distance3}
+use Rattle.trio_core.specs.declared.nodes.Known.{Known}
+use Rattle.trio_core.specs.declared.nodes.Known.TheVariants.{Nothing, One}
+use Rattle.trio_core.specs.Three.{known_both, known_map, known_then, known_of_option, known_all, known_of_cell, known_sum, value3, sure, not3, and3, or3, all3, any3, relates3, at_distance3}
 use Rattle.trio_core.proofs.TermCases.{Each, term_of, every_term}
 use Rattle.trio_core.proofs.Value3At.{signed_value3, value3-Number, value3-Value, value3-Var, value3-Read, value3-Sum, value3-Times}
 
@@ -36,7 +38,7 @@ no_index_behind domains [] z zs none = refl
 no_index_behind domains (d ∷ ds) z zs none = rw (none ds) (stuck (index_of (values_in domains d) z))
 
 all_or_none : (domains : List Domain) (zs : List (Option ℤ)) →
-    (known_all (map known_of_option zs) ≡ one zs) ⊎ ((known_all (map known_of_option zs) ≡ nothing) × ((ds : List ℕ) → indexes domains ds zs ≡ None))
+    (known_all (map known_of_option zs) ≡ One zs) ⊎ ((known_all (map known_of_option zs) ≡ Nothing) × ((ds : List ℕ) → indexes domains ds zs ≡ None))
 all_or_none domains [] = inl refl
 all_or_none domains (None ∷ zs) = inr (refl, λ ds. no_index domains ds zs)
 all_or_none domains (Some z ∷ zs) =

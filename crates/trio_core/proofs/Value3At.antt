@@ -11,7 +11,9 @@ use Rattle.trio_types.specs.World.{World}
 use Rattle.trio_types.specs.Cells.{Cell}
 use Rattle.trio_types.specs.Values.{read_cell}
 use Rattle.trio_types.proofs.Lists.{map-map, map_same}
-use Rattle.trio_core.specs.Three.{Known, one, known_map, known_then, known_all, known_of_cell, known_sum, Value3, value3, term_value3, part_value3}
+use Rattle.trio_core.specs.declared.nodes.Known.{Known}
+use Rattle.trio_core.specs.declared.nodes.Known.TheVariants.{One}
+use Rattle.trio_core.specs.Three.{known_map, known_then, known_all, known_of_cell, known_sum, Value3, value3, term_value3, part_value3}
 
 -- what is known of a part of a sum: its term's value, or that value's opposite
 abbrev pub signed_value3 : World → SignedTerm → Value3
@@ -29,13 +31,13 @@ signed_of_is : (w : World) (p : SignedTerm) → signed_of w p ≡ part_value3 (r
 unfolding value3
 signed_of_is w p = fold_out-SignedTerm Value3 Value3 (term_value3 w) part_value3 p
 
-pub value3-Number : (w : World) (n : ℕ) (e : List ℤ) (look : Cell → Known ℤ) (i : ℕ) → value3 w (term.Number n) e look i ≡ one (pos n)
+pub value3-Number : (w : World) (n : ℕ) (e : List ℤ) (look : Cell → Known ℤ) (i : ℕ) → value3 w (term.Number n) e look i ≡ One (pos n)
 value3-Number w n e look i = ap (λ f. f e look i) (value3_at w (open_term.Number n) (term.rolls-Number n))
 
-pub value3-Value : (w : World) (d v : ℕ) (e : List ℤ) (look : Cell → Known ℤ) (i : ℕ) → value3 w (term.Value d v) e look i ≡ one (pos v)
+pub value3-Value : (w : World) (d v : ℕ) (e : List ℤ) (look : Cell → Known ℤ) (i : ℕ) → value3 w (term.Value d v) e look i ≡ One (pos v)
 value3-Value w d v e look i = ap (λ f. f e look i) (value3_at w (open_term.Value d v) (term.rolls-Value d v))
 
-pub value3-Var : (w : World) (level : ℕ) (e : List ℤ) (look : Cell → Known ℤ) (i : ℕ) → value3 w (term.Var level) e look i ≡ one (slice_index_or e level (pos 0))
+pub value3-Var : (w : World) (level : ℕ) (e : List ℤ) (look : Cell → Known ℤ) (i : ℕ) → value3 w (term.Var level) e look i ≡ One (slice_index_or e level (pos 0))
 value3-Var w level e look i = ap (λ f. f e look i) (value3_at w (open_term.Var level) (term.rolls-Var level))
 
 pub value3-Read : (w : World) (number : ℕ) (args : List Term) (e : List ℤ) (look : Cell → Known ℤ) (i : ℕ) →

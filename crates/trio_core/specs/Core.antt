@@ -50,10 +50,14 @@ node_truth world parts from (node.Or a b) = or_truth (part_truth parts a) (part_
 node_truth world parts from (node.Exists low high a) = exists_truth (drop from (numbers low high)) (part_truth parts a)
 node_truth world parts from (node.Dist a x) = dist_truth world (part_truth parts a) x
 
+-- what is made of nodes in a row, each by what was made of those before it
+abbrev pub in_row : {T : Type 0} → (List T → Node → T) → List T → List Node → List T
+in_row step parts [] = parts
+in_row step parts (n ∷ ns) = in_row step (parts ++ step parts n ∷ []) ns
+
 -- the truths of nodes in a row, behind these
 abbrev pub truths_from : World → List Truth → List Node → List Truth
-truths_from world parts [] = parts
-truths_from world parts (n ∷ ns) = truths_from world (parts ++ node_truth world parts 0 n ∷ []) ns
+truths_from world = in_row (λ parts n. node_truth world parts 0 n)
 
 abbrev pub truth_of_option : World → List Truth → ℕ → Option Node → Truth
 truth_of_option world parts from None = never

@@ -13,7 +13,7 @@ use Rattle.trio_types.specs.declared.formula.Term.TheFolds.{fold-Term}
 use Rattle.trio_types.specs.World.{World}
 use Rattle.trio_types.specs.Kinds.{has_kind, kind_of_constant, is_arity}
 use Rattle.trio_types.specs.Bounds.{Bound, bounded, greatest, term_bound, part_bound}
-use Rattle.trio_types.specs.Parts.{Parts}
+use Rattle.trio_types.specs.Parts.{declarations_of}
 use Rattle.trio_types.specs.WellFormed.{is_well_formed, is_written, instant_fits}
 use Rattle.trio_core.specs.declared.nodes.TheConstants.{MOST_ROUND}
 use Rattle.trio_core.specs.declared.nodes.Node.{Node}
@@ -31,10 +31,6 @@ pub record CoreParts : Type 0 where
 
 abbrev pub world_of_core_parts : CoreParts → World
 world_of_core_parts core = record { instants = core.instants; domains = core.domains; items = core.items }
-
--- a specification over these instants, domains and items that has no axioms and no goals
-abbrev pub declarations_of : World → Parts
-declarations_of world = record { instants = world.instants; domains = world.domains; items = world.items; axioms = []; goals = [] }
 
 -- the values of a variable: the whole numbers from low to high
 pub record Range : Type 0 where

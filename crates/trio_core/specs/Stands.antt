@@ -1,6 +1,6 @@
--- What the roots of a core demand, when a core stands for a specification, and which nodes may be asked for.
-use Rattle.std.specs.Prelude.{◌≡◌, ℕ, ◌<◌, ℤ, Bool, true, false, ◌&&◌, ◌==◌, nat_le, int_le, List, [], ◌∷◌, Option, None, Some, map, length, slice_get}
-use Rattle.std.specs.List.{list_all, flat_map}
+-- The truth of a core, when a core stands for a specification, and which nodes may be asked for.
+use Rattle.std.specs.Prelude.{◌≡◌, ℕ, ◌<◌, ℤ, Bool, true, false, ◌&&◌, ◌==◌, nat_le, int_le, List, [], ◌∷◌, Option, None, Some, length, slice_get}
+use Rattle.std.specs.List.{list_all}
 use Rattle.trio_types.specs.declared.spec.Axiom.{Axiom}
 use Rattle.trio_types.specs.declared.spec.Spec.{Spec}
 use Rattle.trio_types.specs.World.{World}
@@ -22,28 +22,23 @@ parts_of_core core = record { instants = core.instants; domains = core.domains; 
 abbrev pub world_of_core : Core → World
 world_of_core core = world_of_core_parts (parts_of_core core)
 
--- that a node holds at an instant
-pub record NodeDemand : Type 0 where
-  pub node : ℕ
-  pub instant : ℕ
+-- a root is true at each of its instants
+abbrev pub root_truth : Core → List ℕ → Root → Bool
+root_truth core table root =
+    list_all (λ i. core_truth (world_of_core core) core.nodes root.node [] table i) (instants_asked (world_of_core core) root.at)
 
--- a root demands its node at every instant, or at its own
-abbrev pub demands_of_root : World → Root → List NodeDemand
-demands_of_root world root = map (λ i. record { node = root.node; instant = i }) (instants_asked world root.at)
-
--- all that the roots demand, root after root, each at its instants in order
-unfoldable pub demands_of_core : Core → List NodeDemand
-demands_of_core core = flat_map (demands_of_root (world_of_core core)) core.roots
-
--- every root is true at each of its instants
+-- every root is
 abbrev pub is_core_true_in : Core → List ℕ → Bool
-is_core_true_in core table =
-    list_all (λ demand. core_truth (world_of_core core) core.nodes demand.node [] table demand.instant) (demands_of_core core)
+is_core_true_in core table = list_all (root_truth core table) core.roots
 
--- the three-valued truth of a core under sets: the conjunction of all roots at their instants
+-- the three-valued truth of a root under sets: the conjunction over its instants
+abbrev pub root_truth3 : Core → List ℕ → Root → Three
+root_truth3 core sets root =
+    all3 (λ i. core_truth3 (world_of_core core) core.nodes root.node 0 [] sets i) (instants_asked (world_of_core core) root.at)
+
+-- and of a core: the conjunction over its roots
 abbrev pub spec_truth3 : Core → List ℕ → Three
-spec_truth3 core sets =
-    all3 (λ demand. core_truth3 (world_of_core core) core.nodes demand.node 0 [] sets demand.instant) (demands_of_core core)
+spec_truth3 core sets = all3 (root_truth3 core sets) core.roots
 
 -- a root stands for an axiom: it asks at the same instants, and under every table and at every instant it is true exactly where the axiom is
 pub record RootStandsFor (world : World) (nodes : List Node) (root : Root) (claim : Axiom) : Type 0 where

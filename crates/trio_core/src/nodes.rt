@@ -51,3 +51,14 @@ pub enum Three {
     Unknown,
     True,
 }
+
+/// What is known of a value.
+#[derive(Clone, Copy, Debug, PartialEq, Eq)]
+pub enum Known<T> {
+    /// There is none.
+    Nothing,
+    /// It is one of several.
+    Several,
+    /// It is this one.
+    One(T),
+}

@@ -57,7 +57,7 @@ at_range a (suc n) (suc m) x is = let r = at_range (a + 1) n m x is in (omega (a
 ordered_range : (a n : ℕ) → Ordered (λ x y. x < y) (range_with_len a n)
 ordered_range a n = record { order = λ k l x y less at bt. omega (arith, (at_range a n k x at).0, (at_range a n l y bt).0) }
 
-number_at : {X : Type 0} (a : ℕ) (xs : List X) (m : ℕ) (p : ℕ × X) → slice_get (enumerate_from a xs) m ≡ Some p → p.0 ≡ a + m
+pub number_at : {X : Type 0} (a : ℕ) (xs : List X) (m : ℕ) (p : ℕ × X) → slice_get (enumerate_from a xs) m ≡ Some p → p.0 ≡ a + m
 number_at a [] m p is = absurd (none-some p is)
 number_at a (x ∷ xs) zero p is = let e = ap (λ q. q.0) (same_Some (a, x) p is) in omega (arith, e)
 number_at a (x ∷ xs) (suc m) p is = omega (arith, number_at (a + 1) xs m p is)
@@ -160,10 +160,14 @@ found_entry (d ∷ cells) (v ∷ t) (suc n) c o whole at =
     ∙ found_entry cells t n c (once_tail d cells o) (omega arith) at)
     (cases_Bool (same_cell d c))
 
+-- in a list with one entry for each cell a cell's entry is the one at its number
+pub entry_at : (w : World) (t : List ℕ) (n : ℕ) (c : Cell) → length t ≡ length (cells_of w) → slice_get (cells_of w) n ≡ Some c → value_at w t c ≡ slice_get t n
+unfolding value_at
+entry_at w t n c whole at = found_entry (cells_of w) t n c (record { once = cell_once w }) whole at
+
 -- a table's entry at a cell's number is the cell's value
 pub entry_is_value : (w : World) (t : List ℕ) (n : ℕ) (c : Cell) → IsTable w t → slice_get (cells_of w) n ≡ Some c → value_at w t c ≡ slice_get t n
-unfolding value_at
-entry_is_value w t n c fits at = found_entry (cells_of w) t n c (record { once = cell_once w }) fits.whole at
+entry_is_value w t n c fits at = entry_at w t n c fits.whole at
 
 -- and it is below the cell's size
 pub entry_below : (w : World) (t : List ℕ) (n v : ℕ) (c : Cell) → IsTable w t → slice_get (cells_of w) n ≡ Some c → slice_get t n ≡ Some v → v < cell_size w c

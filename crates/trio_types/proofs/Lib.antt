@@ -10,8 +10,11 @@ pub mod NamesAt
 pub mod Integers
 pub mod Domains
 pub mod Specs
+pub mod Declared
 pub mod CellNumbers
 pub mod Operators
 pub mod CellOrder
 pub mod Atoms
 pub mod Verdicts
+pub mod Reading
+pub mod Bounded

@@ -20,6 +20,8 @@ use Rattle.trio_types.specs.Kinds.{of_domain, has_kind, kind_in, is_right, item_
 use Rattle.trio_types.specs.Limits.{count_of, limit_of, counted}
 use Rattle.trio_types.specs.WellFormed.{has_instants, has_bool, values_fit, domains_fit, items_fit, names_are_names, names_are_distinct, variables_are_distinct, kinds_are_right, parts_are_many, numbers_are_small, instants_fit, limits_are_met, is_well_formed}
 use Rattle.trio_types.specs.Verdict.{parts_of}
+use Rattle.trio_types.specs.declared.spec.Declarations.{Declarations}
+use Rattle.trio_types.specs.Declarations.{declared_parts}
 use Rattle.trio_types.proofs.Lists.{each_of, all_left, all_flat, get_left, get_right, get_within}
 use Rattle.trio_types.proofs.Integers.{Decides-int_le}
 use Rattle.trio_types.proofs.Domains.{count_of_values, values_are, length-integers, first_of, size_at, value_of_index, index_of_value, no_index}
@@ -78,6 +80,9 @@ well_formed_from p f =
 
 pub formed : (spec : Spec) → Formed (parts_of spec)
 formed spec = formed_of (parts_of spec) spec.well_formed
+
+pub declared_formed : (declared : Declarations) → Formed (declared_parts declared)
+declared_formed declared = formed_of (declared_parts declared) declared.formed
 
 pub some_instant : (p : Parts) → Formed p → 0 < p.instants
 some_instant p f = ltb-true 0 p.instants (and_parts _ _ f.instants).0

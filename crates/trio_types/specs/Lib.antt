@@ -12,4 +12,5 @@ pub mod Nest
 pub mod Limits
 pub mod WellFormed
 pub mod Verdict
+pub mod Declarations
 pub mod Laws

@@ -2,6 +2,7 @@
 #![tactic(auto)]
 
 mod cells;
+mod declarations;
 mod formula;
 pub mod laws;
 mod spec;
@@ -10,7 +11,8 @@ mod values;
 pub use cells::{CellParts, cell_count, cell_of, cell_parts, cell_size, size_of};
 pub use formula::{Formula, Formulas, SignedTerm, SignedTerms, Term, Terms};
 pub use spec::{
-    Axiom, Axioms, Domain, DomainKind, Domains, Goal, Ids, Item, Items, Names, Spec, Which,
+    Axiom, Axioms, Declarations, Domain, DomainKind, Domains, Goal, Ids, Item, Items, Names, Spec,
+    Which,
 };
 pub use trio_base::{Bytes, Ends, FarOp, List, Name, OneOp, PairOp, Rel};
 pub use values::{index_of, value_at};

@@ -1,4 +1,5 @@
 //! Specifications, with their domains, items, axioms and goals.
+ghost use Rattle.trio_types.specs.Parts.{declarations_of};
 ghost use Rattle.trio_types.specs.WellFormed.{is_well_formed};
 ghost use Rattle.std.specs.Prelude.{IsTrue};
 
@@ -66,6 +67,15 @@ pub struct Spec {
     pub axioms: Axioms,
     pub goals: Axioms,
     pub ghost well_formed: { IsTrue (is_well_formed (record { instants = instants; domains = domains; items = items; axioms = axioms; goals = goals })) },
+}
+
+/// The instants, domains and items of a specification.
+#[derive(Clone, Copy)]
+pub struct Declarations<'a> {
+    pub instants: u32,
+    pub domains: &'a Domains,
+    pub items: &'a Items,
+    pub ghost formed: { IsTrue (is_well_formed (declarations_of (record { instants = instants; domains = domains.now; items = items.now }))) },
 }
 
 /// What is counted of a specification, and has a limit.

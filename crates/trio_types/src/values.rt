@@ -3,8 +3,7 @@ ghost use Rattle.std.specs.Prelude.{◌≡◌, ◌<◌, ◌^◌, ◌≤ℤ◌, p
 ghost use Rattle.trio_types.specs.World.{size_of, values_in};
 ghost use Rattle.trio_types.specs.Values.{index_of};
 
-use crate::cells::size_of;
-use crate::spec::{DomainKind, Spec};
+use crate::spec::Spec;
 
 /// The value of this index in the domain of this number: a number of a range, or the index itself.
 pub fn value_at(spec: &Spec, domain: u32, index: u32) -> i64
@@ -12,7 +11,7 @@ pub fn value_at(spec: &Spec, domain: u32, index: u32) -> i64
     requires index_in { index < size_of spec.now.domains domain }
     ensures { slice_get (values_in spec.now.domains domain) index ≡ Some result }
 {
-    first_value(spec, domain) + i64::from(index)
+    spec.declarations().value_at(domain, index)
 }
 
 /// The index of a value in the domain of this number, where it is one of the domain's values.
@@ -22,22 +21,5 @@ pub fn index_of(spec: &Spec, domain: u32, value: i64) -> Option<u32>
     requires not_far_on { value ≤ℤ pos (2 ^ 62) }
     ensures { result ≡ index_of (values_in spec.now.domains domain) value }
 {
-    let distance = value - first_value(spec, domain);
-    if distance >= 0 && distance < i64::from(size_of(spec, domain)) {
-        Some(distance as u32)
-    } else {
-        None
-    }
-}
-
-/// The value of index 0.
-fn first_value(spec: &Spec, domain: u32) -> i64
-    requires { domain < length spec.now.domains }
-    ensures { slice_get (values_in spec.now.domains domain) 0 ≡ Some result }
-{
-    match &spec.domains.get(domain as usize).kind {
-        DomainKind::Bool => 0,
-        DomainKind::Range(low, _) => *low,
-        DomainKind::Words(_) => 0,
-    }
+    spec.declarations().index_of(domain, value)
 }

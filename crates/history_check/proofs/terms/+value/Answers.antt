@@ -16,9 +16,10 @@ use Rattle.trio_types.proofs.Specs.{formed, value_domain, few_arguments, argumen
 use Rattle.trio_types.proofs.CellNumbers.{args_named, size_inside, size_from_item}
 use Rattle.trio_types.proofs.CellOrder.{entry_below}
 use Rattle.trio_types.proofs.ValueAt.{signed_value, value-Number, value-Value, value-Var, value-Sum, value-Times}
+use Rattle.trio_types.proofs.Reading.{all_indexes, index_more, indexes_fit, map_id, no_index_at, no_value_at, read_is, value-of_cell}
+use Rattle.trio_types.proofs.Bounded.{near_of, own_more, passed, product_fits, product_passed, signed, signed_abs, signed_none, signed_some, sum_more, sum_stuck, triangle}
 use Rattle.history_check.specs.Fits.{TermFits, IsWithin, AreValues}
-use Rattle.history_check.proofs.Windows.{near_of}
-use Rattle.history_check.proofs.TermsFit.{read_item, read_arg, read_length, read_is, read_within, no_value_at, no_index_at, index_more, all_indexes, indexes_fit, value-of_cell, small_value, map_id, sum_part, sum_stuck, sum_more, sum_within, own_bound, own_more, front_bounded, times_part, times_within, times_bounded, var_inside, var_within, value_within, number_within, passed, product_fits, product_passed, triangle, signed, signed_some, signed_none, signed_abs}
+use Rattle.history_check.proofs.TermsFit.{read_item, read_arg, read_length, read_within, small_value, sum_part, sum_within, own_bound, front_bounded, times_part, times_within, times_bounded, var_inside, var_within, value_within, number_within}
 use Rattle.history_check.proofs.terms.+value.Goals.{sum-then-part, sum-else-part}
 use Rattle.history_check.proofs.terms.+value.Goals as goal
 

@@ -3,7 +3,8 @@ use Rattle.std.proofs.Common.{◌≡◌, pos, ◌+ℤ◌, to_z, of_z, w64, ap, �
 use Rattle.std.proofs.lemmas.Int.{ints}
 use Rattle.trio_base.specs.declared.operators.Ends.TheVariants as ends
 use Rattle.trio_types.specs.Truth.{is_ahead}
-use Rattle.history_check.proofs.Windows.{selects_of, ahead_between, ahead_from, ahead_to, near_of}
+use Rattle.trio_types.proofs.Bounded.{near_of}
+use Rattle.history_check.proofs.Windows.{selects_of, ahead_between, ahead_from, ahead_to}
 use Rattle.history_check.proofs.window.ahead.Goals as goal
 
 pub overflow_add-far : goal.overflow_add-far

@@ -2,7 +2,8 @@
 use Rattle.std.proofs.Common.{◌≡◌, pos, ◌+ℤ◌, to_z, of_z, w64, ap, ◌∙◌, arith}
 use Rattle.std.proofs.lemmas.Int.{ints}
 use Rattle.trio_types.specs.Truth.{is_at_distance}
-use Rattle.history_check.proofs.Windows.{selects_of, distance_between, near_of}
+use Rattle.trio_types.proofs.Bounded.{near_of}
+use Rattle.history_check.proofs.Windows.{selects_of, distance_between}
 use Rattle.history_check.proofs.window.at_distance.Goals as goal
 
 pub overflow_add-target : goal.overflow_add-target

@@ -3,7 +3,8 @@ use Rattle.std.proofs.Common.{◌≡◌, pos, ◌+ℤ◌, ◌-ℤ◌, to_z, of_z
 use Rattle.std.proofs.lemmas.Int.{ints}
 use Rattle.trio_base.specs.declared.operators.Ends.TheVariants as ends
 use Rattle.trio_types.specs.Truth.{is_behind}
-use Rattle.history_check.proofs.Windows.{selects_of, behind_between, behind_from, behind_to, near_of}
+use Rattle.trio_types.proofs.Bounded.{near_of}
+use Rattle.history_check.proofs.Windows.{selects_of, behind_between, behind_from, behind_to}
 use Rattle.history_check.proofs.window.behind.Goals as goal
 
 pub overflow_sub-far : goal.overflow_sub-far

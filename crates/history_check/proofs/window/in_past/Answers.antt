@@ -2,7 +2,7 @@
 use Rattle.std.proofs.Common.{◌≡◌, pos, neg_ℤ, ◌-ℤ◌, nat_abs, to_z, of_z, w64, sym, ap, ◌∙◌, arith}
 use Rattle.std.proofs.lemmas.Int.{ints}
 use Rattle.std.proofs.lemmas.Option.{same_Some}
-use Rattle.history_check.proofs.Windows.{near_of, nat_abs_neg}
+use Rattle.trio_types.proofs.Bounded.{nat_abs_neg, near_of}
 use Rattle.history_check.proofs.window.in_past.Goals as goal
 
 pub at_distance-requires : goal.at_distance-requires

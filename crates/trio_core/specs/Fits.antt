@@ -1,0 +1,37 @@
+-- When terms may be evaluated, and what the evaluation of sets tells.
+use Rattle.std.specs.Prelude.{◌≡◌, ℕ, ◌<◌, ◌≤◌, ℤ, ◌≤ℤ◌, nat_abs, Bool, true, List, [], ◌∷◌, ◌++◌, Option, None, Some, length}
+use Rattle.trio_base.specs.declared.limits.TheConstants.{GREATEST_BOUND}
+use Rattle.trio_types.specs.declared.formula.Term.{Term}
+use Rattle.trio_types.specs.World.{World}
+use Rattle.trio_types.specs.WellFormed.{is_written}
+use Rattle.trio_core.specs.declared.nodes.Known.{Known}
+use Rattle.trio_core.specs.declared.nodes.Known.TheVariants.{One}
+use Rattle.trio_core.specs.declared.nodes.Core.{Core}
+use Rattle.trio_core.specs.declared.nodes.TheConstants.{MOST_ROUND}
+use Rattle.trio_core.specs.Core.{numbers}
+use Rattle.trio_core.specs.CoreShape.{Ranges, term_fits}
+use Rattle.trio_core.specs.Stands.{lie_in, NodeAsked}
+
+-- a term fits under these values of the variables
+pub record TermFits (w : World) (x : Term) (values : List ℤ) : Type 0 where
+  pub ranges : Ranges
+  pub reads : Bool
+  pub fits : term_fits w ranges reads x ≡ true
+  pub values_in : lie_in values ranges ≡ true
+
+-- the only member of a set, or that there are several
+abbrev pub IsSole : List ℕ → Option ℕ → Type 0
+IsSole members (Some v) = members ≡ v ∷ []
+IsSole members None = 2 ≤ length members
+
+-- a known value is no greater than a bound
+abbrev pub IsNear : Known ℤ → Type 0
+IsNear k = (z : ℤ) → k ≡ One z → nat_abs z ≤ GREATEST_BOUND
+
+-- a node may be asked for under each value of one more variable, whose values are taken from an index on
+pub record BodyFits (core : Core) (low high : ℤ) (part from i : ℕ) (values : List ℤ) : Type 0 where
+  pub low_near : is_written low ≡ true
+  pub high_near : is_written high ≡ true
+  pub from_in : from ≤ length (numbers low high)
+  pub room : length values < MOST_ROUND
+  pub body : (z : ℤ) → low ≤ℤ z → z ≤ℤ high → NodeAsked core part 0 i (values ++ z ∷ [])

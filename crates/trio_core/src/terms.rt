@@ -1,0 +1,76 @@
+//! What sets tell of the values of terms.
+ghost use Rattle.std.specs.Prelude.{◌≡◌, ◌<◌};
+ghost use Rattle.trio_types.specs.declared.formula.Term.TheVariants as term_of;
+ghost use Rattle.trio_core.specs.Sets.{AreSets};
+ghost use Rattle.trio_core.specs.Three.{known_at, value3};
+ghost use Rattle.trio_core.specs.Stands.{world_of_core};
+ghost use Rattle.trio_core.specs.Fits.{TermFits};
+
+use crate::interpretation::Interpretation;
+use crate::kleene::{plus, signed, sole_member, times};
+use crate::nodes::Known;
+use trio_types::{SignedTerm, Term};
+
+/// What is known of the value of a term at an instant.
+#[cycle(value)]
+pub(crate) fn value_of(under: Interpretation<'_>, term: &Term, instant: u32) -> Known<i64>
+    requires sets_fit { AreSets (world_of_core under.core.now) under.doms.now }
+    requires term_fits { TermFits (world_of_core under.core.now) term.now under.values.now }
+    requires instant_in { instant < under.core.now.instants }
+    ensures { result ≡ value3 (world_of_core under.entry.core.now) term.now under.entry.values.now (known_at (world_of_core under.entry.core.now) under.entry.doms.now) instant }
+{
+    match term {
+        Term::Number(number) => Known::One(i64::from(*number)),
+        Term::Value(_, index) => Known::One(i64::from(*index)),
+        Term::Var(level) => Known::One(under.values[*level as usize]),
+        Term::Read(item, args) => read(under, *item, args.as_slice(), instant),
+        Term::Sum(parts) => sum(under, parts.as_slice(), instant),
+        Term::Times(number, factor) => times(*number, value_of(under, factor.get(), instant)),
+    }
+}
+
+/// What is known of the value of an item at its arguments; there is none where one is outside its domain.
+#[cycle(value)]
+fn read(under: Interpretation<'_>, item: u32, args: &[Term], instant: u32) -> Known<i64>
+    requires sets_fit { AreSets (world_of_core under.core.now) under.doms.now }
+    requires term_fits { TermFits (world_of_core under.core.now) (term_of.Read item args.now) under.values.now }
+    requires instant_in { instant < under.core.now.instants }
+    ensures { result ≡ value3 (world_of_core under.entry.core.now) (term_of.Read item args.now) under.entry.values.now (known_at (world_of_core under.entry.core.now) under.entry.doms.now) instant }
+{
+    let declared = under.core.declarations();
+    let asked = under.core.items.get(item as usize);
+    let domains = asked.args.as_slice();
+    let mut indexes = [0; 4];
+    for place in 0..args.len() {
+        let Known::One(value) = value_of(under, &args[place], instant) else {
+            unreachable!()
+        };
+        let Some(index) = declared.index_of(domains[place], value) else {
+            return Known::Nothing;
+        };
+        indexes[place] = index;
+    }
+    let cell = declared.cell_of(item, &indexes[..args.len()], instant);
+    match sole_member(*under.doms.get(cell as usize)) {
+        Some(index) => Known::One(declared.value_at(asked.value, index)),
+        None => Known::Several,
+    }
+}
+
+/// What is known of the sum of the parts, each with its sign.
+#[cycle(value)]
+fn sum(under: Interpretation<'_>, parts: &[SignedTerm], instant: u32) -> Known<i64>
+    requires sets_fit { AreSets (world_of_core under.core.now) under.doms.now }
+    requires term_fits { TermFits (world_of_core under.core.now) (term_of.Sum parts.now) under.values.now }
+    requires instant_in { instant < under.core.now.instants }
+    ensures { result ≡ value3 (world_of_core under.entry.core.now) (term_of.Sum parts.now) under.entry.values.now (known_at (world_of_core under.entry.core.now) under.entry.doms.now) instant }
+{
+    let mut sum = Known::One(0);
+    for part in parts {
+        sum = plus(
+            sum,
+            signed(part.minus, value_of(under, &part.term, instant)),
+        );
+    }
+    sum
+}
