@@ -1,7 +1,9 @@
 -- The lemmas of the crate.
 mod Contained
-mod Listed
 pub mod Modeled
+pub mod Represented
+pub mod Counted
+mod Listed
 mod SetsFit
 mod Rooted
 mod Singled

@@ -1,5 +1,5 @@
 -- The root: it fits, and represents the models.
-use Rattle.std.proofs.Common.{◌≡◌, ℕ, ◌<◌, true, ◌&&◌, nat_lt, List, [], ◌∷◌, length, All, Option, None, Some, slice_get, refl, sym, ap, ◌∙◌, arith}
+use Rattle.std.proofs.Common.{◌≡◌, ℕ, ◌<◌, true, ◌&&◌, nat_lt, List, [], ◌∷◌, length, get_or, All, Option, None, Some, slice_get, refl, ap, ◌∙◌, arith}
 use Rattle.std.proofs.Math.Path.{ap₂}
 use Rattle.std.specs.List.{list_all, flat_map}
 use Rattle.std.proofs.lemmas.Bool.{and_parts, and_from, false≢true, ltb-true, le-leb}
@@ -13,9 +13,11 @@ use Rattle.trio_core.specs.declared.nodes.Node.{Node}
 use Rattle.trio_core.specs.declared.nodes.Node.TheVariants as node
 use Rattle.trio_core.specs.declared.nodes.Root.{Root}
 use Rattle.trio_core.specs.declared.nodes.Core.{Core}
-use Rattle.trio_core.specs.Core.{numbers, core_truth}
-use Rattle.trio_core.specs.CoreShape.{Ranges, same_ranges, ranges_round, root_fits, is_core}
-use Rattle.trio_core.specs.Stands.{NodeDemand, demands_of_root, demands_of_core, world_of_core, is_core_true_in, lie_in, from_fits, NodeAsked}
+use Rattle.trio_core.specs.Core.{numbers}
+use Rattle.trio_core.specs.CoreShape.{Ranges, same_ranges, ranges_round, root_fits}
+use Rattle.trio_core.specs.Stands.{world_of_core, root_truth, is_core_true_in, lie_in, from_fits, NodeAsked}
+use Rattle.trio_core.proofs.NodesFit.{root_is_fit}
+use Rattle.std.proofs.lemmas.Option.{slice_get-get_or}
 use Rattle.trio_core.proofs.Standing.{stands_law}
 use Rattle.trio_lists.proofs.Filters.{filter_every}
 use Rattle.branch_state.specs.declared.branch.Want.{Want}
@@ -25,11 +27,6 @@ use Rattle.branch_state.specs.Branches.{lies_in, want_holds, keeps, reps, root_s
 use Rattle.branch_state.proofs.Contained.{all_range, all_flat}
 use Rattle.branch_state.proofs.Modeled.{models_are}
 use Rattle.branch_state.proofs.SetsFit.{root_sets_fit, lies_in_root}
-
--- the roots of a core fit
-roots_fit : (core : Core) → list_all (root_fits (world_of_core core) core.nodes) core.roots ≡ true
-unfolding is_core
-roots_fit core = let first = and_parts _ _ core.shaped in (and_parts _ _ first.1).1
 
 no_ranges : (ranges : Ranges) → same_ranges ranges [] ≡ true → lie_in [] ranges ≡ true
 no_ranges [] same = refl
@@ -60,37 +57,28 @@ root_wants_fit core root fits =
     (λ i inside. record { inside = inside; from_in = from_start (slice_get core.nodes root.node) n.0 n.1; values_in = no_ranges (ranges_round core.nodes root.node) rest.0 })
     (instants_asked w root.at) (asked_inside w root.at rest.1))
 
-all_wants_fit : (core : Core) (roots : List Root) → list_all (root_fits (world_of_core core) core.nodes) roots ≡ true →
-    All (λ (root : Root). All (λ (w : Want). NodeAsked core w.node w.from w.now w.env) (wants_of_root (world_of_core core) root)) roots
-all_wants_fit core [] fit = All-nil (λ (root : Root). All (λ (w : Want). NodeAsked core w.node w.from w.now w.env) (wants_of_root (world_of_core core) root))
-all_wants_fit core (r ∷ rs) fit =
-    let both = and_parts (root_fits (world_of_core core) core.nodes r) (list_all (root_fits (world_of_core core) core.nodes) rs) fit in
-    All-cons (λ (root : Root). All (λ (w : Want). NodeAsked core w.node w.from w.now w.env) (wants_of_root (world_of_core core) root)) r rs (root_wants_fit core r both.0) (all_wants_fit core rs both.1)
+all_wants_fit : (core : Core) → All (λ (root : Root). All (λ (w : Want). NodeAsked core w.node w.from w.now w.env) (wants_of_root (world_of_core core) root)) core.roots
+all_wants_fit core = λ k d inside. root_wants_fit core (get_or core.roots k d) (root_is_fit core k (get_or core.roots k d) (slice_get-get_or core.roots k d inside))
 
 pub root_fits_problem : (p : Posed) → IsPosed p → Fits p (root_branch p)
 unfolding root_wants
 root_fits_problem p posed = record {
   sets = root_sets_fit p posed;
-  wants = all_flat (WantFits p) (wants_of_root (world_of_core p.core)) p.core.roots (all_wants_fit p.core p.core.roots (roots_fit p.core));
+  wants = all_flat (WantFits p) (wants_of_root (world_of_core p.core)) p.core.roots (all_wants_fit p.core);
 }
 
 -- the wants of the root hold exactly where the core is true
-wants_of_roots : (p : Posed) (table : List ℕ) (roots : List Root) → list_all (want_holds p table) (flat_map (wants_of_root (world_of_core p.core)) roots)
-    ≡ list_all (λ (d : NodeDemand). core_truth (world_of_core p.core) p.core.nodes d.node [] table d.instant) (flat_map (demands_of_root (world_of_core p.core)) roots)
+wants_of_roots : (p : Posed) (table : List ℕ) (roots : List Root) →
+    list_all (want_holds p table) (flat_map (wants_of_root (world_of_core p.core)) roots) ≡ list_all (root_truth p.core table) roots
 unfolding want_holds
 wants_of_roots p table [] = refl
 wants_of_roots p table (r ∷ rs) =
     let w = world_of_core p.core in
-    let demand_holds = λ (d : NodeDemand). core_truth w p.core.nodes d.node [] table d.instant in
     list_all-append (want_holds p table) (wants_of_root w r) (flat_map (wants_of_root w) rs)
-    ∙ ap₂ ◌&&◌
-    (list_all-map (want_holds p table) (root_want r) (instants_asked w r.at)
-    ∙ sym (list_all-map demand_holds (λ i. record { node = r.node; instant = i }) (instants_asked w r.at)))
-    (wants_of_roots p table rs)
-    ∙ sym (list_all-append demand_holds (demands_of_root w r) (flat_map (demands_of_root w) rs))
+    ∙ ap₂ ◌&&◌ (list_all-map (want_holds p table) (root_want r) (instants_asked w r.at)) (wants_of_roots p table rs)
 
 root_wants_hold : (p : Posed) (table : List ℕ) → list_all (want_holds p table) (root_wants p) ≡ is_core_true_in p.core table
-unfolding root_wants demands_of_core
+unfolding root_wants
 root_wants_hold p table = wants_of_roots p table p.core.roots
 
 root_keeps : (p : Posed) → IsPosed p → (table : List ℕ) → IsModel p table → keeps p (root_branch p) table ≡ true

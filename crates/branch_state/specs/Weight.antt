@@ -1,11 +1,11 @@
 -- The weight of a branch: how much is left to decide in it.
-use Rattle.std.specs.Prelude.{ℕ, ◌+◌, ◌-◌, ◌*◌, ◌^◌, List, [], ◌∷◌, ◌++◌, Option, None, Some, take, length, slice_get, slice_index_or}
+use Rattle.std.specs.Prelude.{ℕ, ◌+◌, ◌-◌, ◌*◌, ◌^◌, List, [], Option, None, Some, take, length, slice_get, slice_index_or}
 use Rattle.std.specs.List.{sum_by, zip}
 use Rattle.trio_types.specs.World.{World}
 use Rattle.trio_types.specs.Cells.{cells_of, cell_size}
 use Rattle.trio_core.specs.declared.nodes.Node.{Node}
 use Rattle.trio_core.specs.declared.nodes.Node.TheVariants as node
-use Rattle.trio_core.specs.Core.{numbers}
+use Rattle.trio_core.specs.Core.{numbers, in_row}
 use Rattle.trio_core.specs.Sets.{members}
 use Rattle.branch_state.specs.declared.branch.Want.{Want}
 use Rattle.branch_state.specs.declared.branch.Branch.{Branch}
@@ -24,10 +24,9 @@ node_count counts from (node.Or a b) = part_count counts a + part_count counts b
 node_count counts from (node.Exists low high a) = (length (numbers low high) - from) * (part_count counts a + 1) + 1
 node_count counts from (node.Dist a x) = part_count counts a + 1
 
--- the counts of nodes in a row, behind these
-abbrev pub counts_from : List ℕ → List Node → List ℕ
-counts_from counts [] = counts
-counts_from counts (n ∷ ns) = counts_from (counts ++ node_count counts 0 n ∷ []) ns
+-- the counts of nodes in a row
+abbrev pub counts_of : List Node → List ℕ
+counts_of = in_row (λ counts n. node_count counts 0 n) []
 
 abbrev pub count_of_option : List ℕ → ℕ → Option Node → ℕ
 count_of_option counts from None = 1
@@ -35,7 +34,7 @@ count_of_option counts from (Some n) = node_count counts from n
 
 -- the count of the node of this number, taken from an index
 unfoldable pub core_count : List Node → ℕ → ℕ → ℕ
-core_count nodes a from = count_of_option (counts_from [] (take a nodes)) from (slice_get nodes a)
+core_count nodes a from = count_of_option (counts_of (take a nodes)) from (slice_get nodes a)
 
 abbrev pub want_weight : Posed → Want → ℕ
 want_weight p want = core_count p.core.nodes want.node want.from
