@@ -1,5 +1,5 @@
 -- What the code reads of cells, given values and lists in a row.
-use Rattle.std.proofs.Common.{◌≡◌, ℕ, zero, suc, ◌+◌, ◌<◌, ◌≤◌, ℤ, Bool, nat_lt, List, [], ◌∷◌, ◌++◌, map, take, length, Option, None, Some, slice_get, zip, refl, sym, ap, ◌∙◌, arith}
+use Rattle.std.proofs.Common.{◌≡◌, ℕ, zero, suc, ◌+◌, ◌<◌, ◌≤◌, nat_lt, List, [], ◌∷◌, ◌++◌, map, take, length, Option, None, Some, slice_get, zip, refl, sym, ap, ◌∙◌, arith}
 use Rattle.std.specs.List.{flat_map, range_with_len}
 use Rattle.std.specs.Option.{option_map}
 use Rattle.std.proofs.lemmas.Bool.{ltb-true}
@@ -119,11 +119,3 @@ one_more_want root n before made want is one =
     let e : 0 + n ≡ n = omega arith in
     rw (is, one) (append_assoc made (map (root_want root) (range_with_len 0 n)) (root_want root n ∷ []))
     ∙ ap (λ ws. made ++ ws) (sym (map-range_with_len_more (root_want root) 0 n n e))
-
--- wants with the same parts
-pub want_same : (a b : Want) → a.node ≡ b.node → a.now ≡ b.now → a.env ≡ b.env → a.sign ≡ b.sign → a.from ≡ b.from → a ≡ b
-want_same a b = made a.node b.node a.now b.now a.env b.env a.sign b.sign a.from b.from
-  where
-    made : (n m i j : ℕ) (e f : List ℤ) (s t : Bool) (k l : ℕ) → n ≡ m → i ≡ j → e ≡ f → s ≡ t → k ≡ l →
-        ◌≡◌ {A = Want} (record { node = n; now = i; env = e; sign = s; from = k }) (record { node = m; now = j; env = f; sign = t; from = l })
-    made n m i j e f s t k l p q r u v = rw (p, q, r, u, v) refl

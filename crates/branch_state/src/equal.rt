@@ -2,37 +2,29 @@
 ghost use Rattle.std.specs.Prelude.{◌≡◌, ◌↔◌, IsTrue};
 
 use crate::branch::{Branch, Want};
+use crate::comparing::{Same, same_all};
+use crate::env::Env;
 
 /// Whether two branches have the same sets, and the same wants in the same order. It takes no memory.
 pub fn same(left: &Branch, right: &Branch) -> bool
     ensures { IsTrue result ↔ (left.now ≡ right.now) }
 {
     left.doms.as_slice() == right.doms.as_slice()
-        && same_wants(left.wants.as_slice(), right.wants.as_slice())
+        && same_all(left.wants.as_slice(), right.wants.as_slice())
 }
 
-fn same_wants(left: &[Want], right: &[Want]) -> bool
-    ensures { IsTrue result ↔ (left.now ≡ right.now) }
-{
-    if left.len() != right.len() {
-        return false;
+impl Same for Want {
+    fn same(&self, other: &Want) -> bool {
+        self.node == other.node
+            && self.now == other.now
+            && self.env.same(&other.env)
+            && self.sign == other.sign
+            && self.from == other.from
     }
-    for place in 0..left.len() {
-        if !same_want(&left[place], &right[place]) {
-            return false;
-        }
-    }
-    true
 }
 
-fn same_want(left: &Want, right: &Want) -> bool
-    ensures { IsTrue result ↔ (left.entry.now ≡ right.entry.now) }
-{
-    if left.node != right.node || left.now != right.now {
-        return false;
+impl Same for Env {
+    fn same(&self, other: &Env) -> bool {
+        self.as_slice() == other.as_slice()
     }
-    if left.sign != right.sign || left.from != right.from {
-        return false;
-    }
-    left.env.as_slice() == right.env.as_slice()
 }
