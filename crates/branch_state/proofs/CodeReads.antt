@@ -14,6 +14,7 @@ use Rattle.trio_types.specs.Verdict.{parts_of, world_of}
 use Rattle.trio_types.proofs.Lists.{each_of, get_within, map_some}
 use Rattle.trio_types.proofs.Specs.{formed, value_domain}
 use Rattle.trio_types.proofs.CellNumbers.{some_size, small_size, few_cells, cell_count_is, cell_item, size_from_item}
+use Rattle.trio_core.proofs.Looks.{zip_at}
 use Rattle.history_table.specs.Fitting.{is_below}
 use Rattle.branch_state.specs.Posed.{Posed, IsPosed, world_of_problem}
 use Rattle.branch_state.specs.Branches.{full_set, single_set, root_set, root_sets, root_want, wants_of_root}
@@ -41,12 +42,6 @@ size_fits spec n c at =
       some = omega (arith, is, some_size (parts_of spec) (formed spec) item.0.value inside);
       few = omega (arith, is, small_size (parts_of spec) (formed spec) item.0.value inside);
     }
-
-zip_at : {X Y : Type 0} (xs : List X) (ys : List Y) (n : ℕ) (x : X) (y : Y) → slice_get xs n ≡ Some x → slice_get ys n ≡ Some y → slice_get (zip xs ys) n ≡ Some (x, y)
-zip_at [] ys n x y xt yt = absurd (none-some x xt)
-zip_at (a ∷ xs) [] n x y xt yt = absurd (none-some y yt)
-zip_at (a ∷ xs) (b ∷ ys) zero x y xt yt = rw (same_Some a x xt, same_Some b y yt) refl
-zip_at (a ∷ xs) (b ∷ ys) (suc n) x y xt yt = zip_at xs ys n x y xt yt
 
 set_at : (w : World) (cells : List Cell) (given : List (Option ℕ)) (n : ℕ) (c : Cell) (g : Option ℕ) → slice_get cells n ≡ Some c → slice_get given n ≡ Some g →
     slice_get (map (λ q. root_set (cell_size w q.0) q.1) (zip cells given)) n ≡ Some (root_set (cell_size w c) g)

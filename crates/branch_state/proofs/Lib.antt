@@ -3,6 +3,7 @@ mod Contained
 pub mod Modeled
 pub mod Represented
 pub mod Counted
+pub mod SureInTable
 mod Listed
 mod SetsFit
 mod Rooted

@@ -1,22 +1,17 @@
 -- The root: it fits, and represents the models.
-use Rattle.std.proofs.Common.{◌≡◌, ℕ, ◌<◌, true, ◌&&◌, nat_lt, List, [], ◌∷◌, length, get_or, All, Option, None, Some, slice_get, refl, ap, ◌∙◌, arith}
+use Rattle.std.proofs.Common.{◌≡◌, ℕ, ◌<◌, true, ◌&&◌, List, [], ◌∷◌, get_or, All, Option, None, Some, refl, ◌∙◌}
 use Rattle.std.proofs.Math.Path.{ap₂}
 use Rattle.std.specs.List.{list_all, flat_map}
-use Rattle.std.proofs.lemmas.Bool.{and_parts, and_from, false≢true, ltb-true, le-leb}
+use Rattle.std.proofs.lemmas.Bool.{and_from}
 use Rattle.std.proofs.lemmas.List.Elements.{All-nil, All-cons, All-weaker, All-map}
 use Rattle.std.proofs.lemmas.List.Folds.{list_all-map, list_all-append}
-use Rattle.trio_types.specs.World.{World, instants_of}
+use Rattle.trio_types.specs.World.{instants_of}
 use Rattle.trio_types.specs.Verdict.{instants_asked}
-use Rattle.trio_types.specs.WellFormed.{instant_fits}
-use Rattle.trio_types.proofs.Lists.{get_within}
-use Rattle.trio_core.specs.declared.nodes.Node.{Node}
-use Rattle.trio_core.specs.declared.nodes.Node.TheVariants as node
 use Rattle.trio_core.specs.declared.nodes.Root.{Root}
 use Rattle.trio_core.specs.declared.nodes.Core.{Core}
-use Rattle.trio_core.specs.Core.{numbers}
-use Rattle.trio_core.specs.CoreShape.{Ranges, same_ranges, ranges_round, root_fits}
-use Rattle.trio_core.specs.Stands.{world_of_core, root_truth, is_core_true_in, lie_in, from_fits, NodeAsked}
-use Rattle.trio_core.proofs.NodesFit.{root_is_fit}
+use Rattle.trio_core.specs.CoreShape.{root_fits}
+use Rattle.trio_core.specs.Stands.{world_of_core, root_truth, is_core_true_in, NodeAsked}
+use Rattle.trio_core.proofs.NodesFit.{root_is_fit, root_asked, root_instant}
 use Rattle.std.proofs.lemmas.Option.{slice_get-get_or}
 use Rattle.trio_core.proofs.Standing.{stands_law}
 use Rattle.trio_lists.proofs.Filters.{filter_every}
@@ -28,34 +23,21 @@ use Rattle.branch_state.proofs.Contained.{all_range, all_flat}
 use Rattle.branch_state.proofs.Modeled.{models_are}
 use Rattle.branch_state.proofs.SetsFit.{root_sets_fit, lies_in_root}
 
-no_ranges : (ranges : Ranges) → same_ranges ranges [] ≡ true → lie_in [] ranges ≡ true
-no_ranges [] same = refl
-no_ranges (r ∷ rs) same = absurd (false≢true same)
-
-from_start : (o : Option Node) (n : Node) → o ≡ Some n → from_fits 0 o ≡ true
-from_start o (node.Exists low high a) is = ap (from_fits 0) is ∙ le-leb 0 (length (numbers low high)) (omega arith)
-from_start o (node.Atom r x y) is = ap (from_fits 0) is
-from_start o (node.Not a) is = ap (from_fits 0) is
-from_start o (node.And a b) is = ap (from_fits 0) is
-from_start o (node.Or a b) is = ap (from_fits 0) is
-from_start o (node.Dist a x) is = ap (from_fits 0) is
-
-asked_inside : (w : World) (at : Option ℕ) → instant_fits w.instants at ≡ true → All (λ i. i < w.instants) (instants_asked w at)
+-- a root asks inside time
+asked_inside : (core : Core) (root : Root) → root_fits (world_of_core core) core.nodes root ≡ true → All (λ i. i < core.instants) (instants_asked (world_of_core core) root.at)
 unfolding instants_of
-asked_inside w None fits = all_range w.instants
-asked_inside w (Some k) fits = All-cons (λ i. i < w.instants) k [] (ltb-true k w.instants fits) (All-nil (λ i. i < w.instants))
+asked_inside core root fits = at_instants root.at refl
+  where
+    at_instants : (at : Option ℕ) → root.at ≡ at → All (λ i. i < core.instants) (instants_asked (world_of_core core) at)
+    at_instants None is = all_range core.instants
+    at_instants (Some k) is = All-cons (λ i. i < core.instants) k [] (root_instant core root k fits is) (All-nil (λ i. i < core.instants))
 
 root_wants_fit : (core : Core) (root : Root) → root_fits (world_of_core core) core.nodes root ≡ true →
     All (λ (w : Want). NodeAsked core w.node w.from w.now w.env) (wants_of_root (world_of_core core) root)
 root_wants_fit core root fits =
-    let w = world_of_core core in
-    let both = and_parts (nat_lt root.node (length core.nodes)) (same_ranges (ranges_round core.nodes root.node) [] && instant_fits w.instants root.at) fits in
-    let rest = and_parts (same_ranges (ranges_round core.nodes root.node) []) (instant_fits w.instants root.at) both.1 in
-    let n = get_within core.nodes root.node (ltb-true root.node (length core.nodes) both.0) in
-    All-map (λ (v : Want). NodeAsked core v.node v.from v.now v.env) (root_want root) (instants_asked w root.at)
-    (All-weaker (λ i. i < w.instants) (λ i. NodeAsked core root.node 0 i [])
-    (λ i inside. record { inside = inside; from_in = from_start (slice_get core.nodes root.node) n.0 n.1; values_in = no_ranges (ranges_round core.nodes root.node) rest.0 })
-    (instants_asked w root.at) (asked_inside w root.at rest.1))
+    All-map (λ (w : Want). NodeAsked core w.node w.from w.now w.env) (root_want root) (instants_asked (world_of_core core) root.at)
+    (All-weaker (λ i. i < core.instants) (λ i. NodeAsked core root.node 0 i []) (λ i inside. root_asked core root i fits inside)
+    (instants_asked (world_of_core core) root.at) (asked_inside core root fits))
 
 all_wants_fit : (core : Core) → All (λ (root : Root). All (λ (w : Want). NodeAsked core w.node w.from w.now w.env) (wants_of_root (world_of_core core) root)) core.roots
 all_wants_fit core = λ k d inside. root_wants_fit core (get_or core.roots k d) (root_is_fit core k (get_or core.roots k d) (slice_get-get_or core.roots k d inside))

@@ -37,7 +37,7 @@ full_is_set size some =
     let more : 1 < 2 ^ size = pow-lt {i = 0} {j = size} some in
     and_from (nat_lt 0 (2 ^ size - 1)) (nat_lt (2 ^ size - 1) (2 ^ size)) (lt-ltb 0 (2 ^ size - 1) (omega (arith, more))) (lt-ltb (2 ^ size - 1) (2 ^ size) (ones_lt size))
 
-single_is_set : (size v : ℕ) → v < size → is_set size (single_set v) ≡ true
+pub single_is_set : (size v : ℕ) → v < size → is_set size (single_set v) ≡ true
 single_is_set size v below =
     and_from (nat_lt 0 (2 ^ v)) (nat_lt (2 ^ v) (2 ^ size)) (lt-ltb 0 (2 ^ v) (pow_pos v)) (lt-ltb (2 ^ v) (2 ^ size) (pow-lt {i = v} {j = size} below))
 
@@ -129,11 +129,11 @@ unfolding root_sets
 lies_in_root p table below extended = lies_in_sets (world_of_problem p) (cells_of (world_of_problem p)) p.given table below extended
 
 -- single sets
-singles_length : (table : List ℕ) → length (map single_set table) ≡ length table
+pub singles_length : (table : List ℕ) → length (map single_set table) ≡ length table
 singles_length [] = refl
 singles_length (v ∷ vs) = omega (arith, singles_length vs)
 
-singles_fit : (w : World) (cells : List Cell) (table : List ℕ) → are_below w cells table ≡ true → list_all (λ q. is_set (cell_size w q.0) q.1) (zip cells (map single_set table)) ≡ true
+pub singles_fit : (w : World) (cells : List Cell) (table : List ℕ) → are_below w cells table ≡ true → list_all (λ q. is_set (cell_size w q.0) q.1) (zip cells (map single_set table)) ≡ true
 singles_fit w [] table below = refl
 singles_fit w (c ∷ cs) [] below = refl
 singles_fit w (c ∷ cs) (v ∷ vs) below =
