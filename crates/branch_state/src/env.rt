@@ -1,5 +1,5 @@
 //! Values of variables.
-ghost use Rattle.std.specs.Prelude.{◌≡◌, [], ◌∷◌, ◌++◌, ◌<◌, length, slice_get, slice_set, IfOk, OnOk, OnErr, MatchOption};
+ghost use Rattle.std.specs.Prelude.{◌≡◌, [], ◌∷◌, ◌++◌, ◌<◌, length, slice_get, slice_set, Some, IfOk, OnOk, OnErr, MatchOption};
 
 use smallvec::SmallVec;
 use std::alloc::{AllocError, Global};
@@ -54,6 +54,29 @@ impl Env {
             Ok(()) => Ok(()),
             Err(_) => Err(AllocError),
         }
+    }
+
+    /// Takes out the last value; `None` exactly where the list is empty.
+    pub fn pop(&mut self) -> Option<i64>
+        ensures { MatchOption result ((self.old ≡ []) × (self.new ≡ [])) (λ last. self.old ≡ self.new ++ last ∷ []) }
+    {
+        self.values.pop()
+    }
+
+    /// The value at a place, counted from 0.
+    pub fn get(&self, place: usize) -> i64
+        requires { place < length self.now }
+        ensures { slice_get self.now place ≡ Some result }
+    {
+        self.values.as_slice()[place]
+    }
+
+    /// Replaces the value at a place, counted from 0.
+    pub fn set(&mut self, place: usize, value: i64)
+        requires { place < length self.old }
+        ensures { self.new ≡ slice_set self.old place value }
+    {
+        self.values.as_mut_slice()[place] = value;
     }
 
     /// How many values there are.

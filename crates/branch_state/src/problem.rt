@@ -40,10 +40,11 @@ pub fn pose(spec: Spec, core: Core, given: Given) -> Problem
 }
 
 impl Problem {
-    /// What holds of every problem.
-    pub fn keep(&self)
-        ensures { IsPosed self.now }
+    /// The core, which stands for the specification.
+    pub fn core(&self) -> &Core
+        ensures is { result.now ≡ self.now.core }
+        ensures posed { IsPosed self.now }
     {
-        let _given = &self.given;
+        &self.core
     }
 }

@@ -49,8 +49,9 @@ fn root_wants(alloc: Global, problem: &Problem) -> Result<Wants, AllocError>
     ensures { IfOk result (λ made. made ≡ root_wants problem.now) }
 {
     let mut wants = Vec::new(alloc);
-    for root in problem.core.roots.as_slice() {
-        add_wants(alloc, &mut wants, &problem.core, *root)?;
+    let core = problem.core();
+    for root in core.roots.as_slice() {
+        add_wants(alloc, &mut wants, core, *root)?;
     }
     Ok(List::from_vec(wants))
 }

@@ -1,7 +1,7 @@
 -- Lists that permute each other.
 use Rattle.std.proofs.Common.{◌≡◌, ◌↔◌, ℕ, ◌<◌, Bool, true, false, cond, List, [], ◌∷◌, ◌++◌, reverse, length, refl, sym, ap, ◌∙◌, arith}
 use Rattle.std.specs.Bool.{Decides}
-use Rattle.std.specs.List.{sum_by}
+use Rattle.std.specs.List.{sum_by, flat_map}
 use Rattle.std.specs.List.Sorted.{IsPermutation}
 use Rattle.std.proofs.lemmas.List.Sums.{sum_by-cons, sum_by-append}
 use Rattle.std.proofs.lemmas.List.Sorted.{IsPermutation-refl, IsPermutation-sym, IsPermutation-trans, IsPermutation-cons, IsPermutation-middle, IsPermutation-reverse, sum_by-IsPermutation}
@@ -20,6 +20,15 @@ pub permutes_append : {A : Type 0} {xs ys us vs : List A} → Permutes xs ys →
 permutes_append {A} {xs} {ys} {us} {vs} p q = record {
   weights = λ h. omega (arith, sum_by-append h xs us, sum_by-append h ys vs, p.weights h, q.weights h);
 }
+
+-- the weight of lists in a row
+pub sum_by-flat_map : {A B : Type 0} (h : B → ℕ) (f : A → List B) (xs : List A) → sum_by h (flat_map f xs) ≡ sum_by (λ x. sum_by h (f x)) xs
+sum_by-flat_map h f [] = refl
+sum_by-flat_map h f (x ∷ xs) = omega (arith, sum_by-append h (f x) (flat_map f xs), sum_by-cons (λ y. sum_by h (f y)) x xs, sum_by-flat_map h f xs)
+
+-- so lists in the order of a permutation permute each other
+pub permutes_flat : {A B : Type 0} (f : A → List B) (xs ys : List A) → Permutes xs ys → Permutes (flat_map f xs) (flat_map f ys)
+permutes_flat f xs ys p = record { weights = λ h. sum_by-flat_map h f xs ∙ p.weights (λ x. sum_by h (f x)) ∙ sym (sum_by-flat_map h f ys) }
 
 -- what `sort` ensures
 pub permutes_from : {A : Type 0} (xs ys : List A) → IsPermutation xs ys → Permutes xs ys
