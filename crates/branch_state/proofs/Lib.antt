@@ -5,7 +5,7 @@ pub mod Represented
 pub mod Counted
 pub mod SureInTable
 mod Listed
-mod SetsFit
+pub mod SetsFit
 mod Rooted
 mod Singled
 mod CodeReads

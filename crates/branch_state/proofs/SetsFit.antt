@@ -24,10 +24,10 @@ use Rattle.branch_state.proofs.Contained.{all_filtered}
 has_full : (size v : ℕ) → v < size → set_has (full_set size) v ≡ true
 has_full size v below = eq-eqb (bit_at (2 ^ size - 1) v) 1 (bit_at_ones size v below)
 
-has_single : (v : ℕ) → set_has (single_set v) v ≡ true
+pub has_single : (v : ℕ) → set_has (single_set v) v ≡ true
 has_single v = eq-eqb (bit_at (2 ^ v) v) 1 (bit_at-pow_same v)
 
-only_single : (v u : ℕ) → set_has (single_set v) u ≡ true → u ≡ v
+pub only_single : (v u : ℕ) → set_has (single_set v) u ≡ true → u ≡ v
 only_single v u has =
     ⊎_elim (λ same. same)
     (λ other. let is : bit_at (2 ^ v) u ≡ 1 = eqb-true (bit_at (2 ^ v) u) 1 has in absurd (omega (arith, is, bit_at-pow_other v u other))) (cases_eq u v)

@@ -77,22 +77,15 @@ pub(crate) fn same_formula(left: &Formula, right: &Formula) -> bool
             *rel == *other && same_term(first, third) && same_term(second, fourth)
         }
         (Formula::Not(one), Formula::Not(other)) => same_formula(one.get(), other.get()),
-        (Formula::And(parts), Formula::And(others)) => {
+        (Formula::And(parts), Formula::And(others)) | (Formula::Or(parts), Formula::Or(others)) => {
             same_formulas(parts.as_slice(), others.as_slice())
         }
-        (Formula::Or(parts), Formula::Or(others)) => {
-            same_formulas(parts.as_slice(), others.as_slice())
-        }
-        (Formula::Implies(first, second), Formula::Implies(third, fourth)) => {
+        (Formula::Implies(first, second), Formula::Implies(third, fourth))
+        | (Formula::Iff(first, second), Formula::Iff(third, fourth)) => {
             same_formula(first.get(), third.get()) && same_formula(second.get(), fourth.get())
         }
-        (Formula::Iff(first, second), Formula::Iff(third, fourth)) => {
-            same_formula(first.get(), third.get()) && same_formula(second.get(), fourth.get())
-        }
-        (Formula::All(name, domain, body), Formula::All(other, number, part)) => {
-            name.same(other) && *domain == *number && same_formula(body.get(), part.get())
-        }
-        (Formula::Ex(name, domain, body), Formula::Ex(other, number, part)) => {
+        (Formula::All(name, domain, body), Formula::All(other, number, part))
+        | (Formula::Ex(name, domain, body), Formula::Ex(other, number, part)) => {
             name.same(other) && *domain == *number && same_formula(body.get(), part.get())
         }
         (Formula::One(op, one), Formula::One(other_op, other)) => {
