@@ -1,0 +1,5 @@
+pub mod Posed
+pub mod Models
+pub mod Branches
+pub mod Weight
+pub mod Laws

@@ -1,0 +1,33 @@
+//! Sets of value indexes as words.
+ghost use Rattle.std.specs.Prelude.{◌≡◌, [], ◌∷◌, ◌++◌, ◌<◌, ◌≤◌, OnOk};
+ghost use Rattle.branch_state.specs.Branches.{full_set, single_set};
+
+use std::alloc::AllocError;
+use trio_core::Doms;
+
+/// The set of one index alone.
+pub fn single_set(index: u32) -> u64
+    requires { index < 64 }
+    ensures { result ≡ single_set index }
+{
+    1 << index
+}
+
+/// The set of all indexes below a size.
+pub(crate) fn full_set(size: u32) -> u64
+    requires some { 0 < size }
+    requires few { size ≤ 64 }
+    ensures { result ≡ full_set size }
+{
+    if size < 64 { (1 << size) - 1 } else { u64::MAX }
+}
+
+/// Appends a set; only want of memory refuses it.
+pub(crate) fn add_set(sets: &mut Doms, set: u64) -> Result<(), AllocError>
+    ensures { OnOk result (sets.new ≡ sets.old ++ set ∷ []) }
+{
+    match sets.push(set) {
+        Ok(()) => Ok(()),
+        Err((_, refused)) => Err(refused),
+    }
+}

@@ -1,0 +1,4 @@
+//! Lists as multisets, and lists in order.
+#![tactic(auto)]
+
+pub mod laws;
