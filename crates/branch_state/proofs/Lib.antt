@@ -9,3 +9,4 @@ pub mod SetsFit
 mod Rooted
 mod Singled
 mod CodeReads
+mod HoldsInTable
