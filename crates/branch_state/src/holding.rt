@@ -46,7 +46,12 @@ fn wants_hold(problem: &Problem, branch: &Branch, table: &Table) -> bool
     for cell in 0..table.len() {
         singles[cell] = single_set(u32::from(*table.get(cell)));
     }
-    want_all(problem, branch.wants.as_slice(), table, &singles[..table.len()])
+    want_all(
+        problem,
+        branch.wants.as_slice(),
+        table,
+        &singles[..table.len()],
+    )
 }
 
 /// Whether every want holds in a table, by the single sets of its indexes.
