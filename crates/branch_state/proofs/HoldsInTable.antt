@@ -24,13 +24,13 @@ use Rattle.branch_state.proofs.CodeReads.{take_next}
 use Rattle.branch_state.proofs.SureInTable.{singles_are_sets, sure_in_table}
 
 -- one more element passes
-pub all_next : {X : Type 0} (p : X → Bool) (xs : List X) (n : ℕ) (x : X) → slice_get xs n ≡ Some x → p x ≡ true → list_all p (take n xs) ≡ true → list_all p (take (n + 1) xs) ≡ true
+all_next : {X : Type 0} (p : X → Bool) (xs : List X) (n : ℕ) (x : X) → slice_get xs n ≡ Some x → p x ≡ true → list_all p (take n xs) ≡ true → list_all p (take (n + 1) xs) ≡ true
 all_next p xs n x at here before =
     list_all_more p xs n x (slice_get_within xs n x at)
     ∙ and_from (list_all p (take n xs)) (p _) before (ap p (get_or_from_slice_get xs n x x at) ∙ here)
 
 -- an element does not
-pub all_fails : {X : Type 0} (p : X → Bool) (xs : List X) (n : ℕ) (x : X) → slice_get xs n ≡ Some x → p x ≡ false → list_all p xs ≡ false
+all_fails : {X : Type 0} (p : X → Bool) (xs : List X) (n : ℕ) (x : X) → slice_get xs n ≡ Some x → p x ≡ false → list_all p xs ≡ false
 all_fails p xs n x at here = false_from_ne_true (list_all p xs) (λ all. false≢true (sym here ∙ each_of p xs all n x at))
 
 -- one more index is in the set of its cell, or one is not
