@@ -15,3 +15,5 @@ mod Placed
 mod TermsPlaced
 mod WrittenFits
 mod Making
+mod Reordered
+mod GoalMoved
