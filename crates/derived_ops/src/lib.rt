@@ -1,4 +1,4 @@
-//! The rewriting of specifications into cores.
+//! Specifications rewritten into cores, and goals moved among their axioms.
 #![tactic(auto)]
 
 mod copies;
