@@ -16,6 +16,10 @@ use Rattle.trio_types.proofs.Specs.{formed, well_formed_from}
 use Rattle.derived_ops.specs.Goals.{with_goal}
 use Rattle.derived_ops.proofs.Reordered.{reordered}
 
+-- the goal that a copy of the goals holds
+pub from_copies : {goals copies : List Axiom} (goal : ℕ) (moved : Axiom) → copies ≡ goals → moved ≡ get_or copies goal moved → moved ≡ get_or goals goal moved
+from_copies goal moved same is = is ∙ ap (λ goals. get_or goals goal moved) same
+
 module _ (spec : Spec) (goal : ℕ) (moved : Axiom) (inside : goal < length spec.goals) (is : moved ≡ get_or spec.goals goal moved) where
   -- the goal alone
   alone : option_to_list (slice_get spec.goals goal) ≡ moved ∷ []

@@ -3,7 +3,8 @@ use Rattle.std.proofs.Common.{◌≡◌, ℕ, ◌*◌, ◌≤◌, Bool, true, fa
 use Rattle.std.specs.List.{list_all, list_any, flat_map, count_by}
 use Rattle.std.specs.List.Sorted.{IsPermutation}
 use Rattle.std.specs.Str.{bytes_eq}
-use Rattle.std.proofs.lemmas.Bool.{and_parts, and_from, le-leb, leb-true, not-true, not_from_false, or_parts}
+use Rattle.std.proofs.Math.Logic.{⊎_elim}
+use Rattle.std.proofs.lemmas.Bool.{and_parts, and_from, le-leb, leb-true, not-true, not_from_false, or_parts, cases_Bool}
 use Rattle.std.proofs.lemmas.List.Folds.{list_all-append}
 use Rattle.std.proofs.lemmas.List.Sums.{sum_by-cons}
 use Rattle.std.proofs.lemmas.List.Sorted.{IsPermutation-append_left, IsPermutation-append_right, IsPermutation-map, sum_by-IsPermutation, list_any-IsPermutation}
@@ -75,31 +76,26 @@ none_counted p (x ∷ xs) none =
 
 none_of_none : {X : Type 0} (p : X → Bool) (xs : List X) → count_by p xs ≡ 0 → list_any p xs ≡ false
 none_of_none p [] none = refl
-none_of_none p (x ∷ xs) none = passes (p x) refl
-  where
-    passes : (b : Bool) → p x ≡ b → list_any p (x ∷ xs) ≡ false
-    passes true is =
-        let here : cond {A = ℕ} (p x) 1 0 ≡ 1 = ap (λ b. cond b 1 0) is in
-        absurd (omega (arith, sum_by-cons (λ y. cond (p y) 1 0) x xs, here, none))
-    passes false is = rw is (none_of_none p xs (omega (arith, sum_by-cons (λ y. cond (p y) 1 0) x xs, none)))
+none_of_none p (x ∷ xs) none =
+    ⊎_elim
+    (λ yes. let here : cond {A = ℕ} (p x) 1 0 ≡ 1 = ap (λ b. cond b 1 0) yes in
+    absurd (omega (arith, sum_by-cons (λ y. cond (p y) 1 0) x xs, here, none)))
+    (λ no. rw no (none_of_none p xs (omega (arith, sum_by-cons (λ y. cond (p y) 1 0) x xs, none))))
+    (cases_Bool (p x))
 
 -- names are distinct exactly where each stands at most once
 once : (names : List (List ℕ)) → are_distinct names ≡ true → (name : List ℕ) → count_by (bytes_eq name) names ≤ 1
 once [] are name = omega arith
-once (n ∷ names) are name = stands (bytes_eq name n) refl
-  where
-    parts : (not (list_any (bytes_eq n) names) ≡ true) × (are_distinct names ≡ true)
-    parts = and_parts (not (list_any (bytes_eq n) names)) (are_distinct names) are
-
-    stands : (b : Bool) → bytes_eq name n ≡ b → count_by (bytes_eq name) (n ∷ names) ≤ 1
-    stands true is =
-        let same : name ≡ n = (bytes_eq-Decides name n).0 is in
-        let none : count_by (bytes_eq name) names ≡ 0 = rw same (none_counted (bytes_eq n) names (not-true (list_any (bytes_eq n) names) parts.0)) in
-        let here : cond {A = ℕ} (bytes_eq name n) 1 0 ≡ 1 = ap (λ b. cond b 1 0) is in
-        omega (arith, sum_by-cons (λ y. cond (bytes_eq name y) 1 0) n names, here, none)
-    stands false is =
-        let here : cond {A = ℕ} (bytes_eq name n) 1 0 ≡ 0 = ap (λ b. cond b 1 0) is in
-        omega (arith, sum_by-cons (λ y. cond (bytes_eq name y) 1 0) n names, here, once names parts.1 name)
+once (n ∷ names) are name =
+    let parts = and_parts (not (list_any (bytes_eq n) names)) (are_distinct names) are in
+    ⊎_elim
+    (λ yes. let same : name ≡ n = (bytes_eq-Decides name n).0 yes in
+    let none : count_by (bytes_eq name) names ≡ 0 = rw same (none_counted (bytes_eq n) names (not-true (list_any (bytes_eq n) names) parts.0)) in
+    let here : cond {A = ℕ} (bytes_eq name n) 1 0 ≡ 1 = ap (λ b. cond b 1 0) yes in
+    omega (arith, sum_by-cons (λ y. cond (bytes_eq name y) 1 0) n names, here, none))
+    (λ no. let here : cond {A = ℕ} (bytes_eq name n) 1 0 ≡ 0 = ap (λ b. cond b 1 0) no in
+    omega (arith, sum_by-cons (λ y. cond (bytes_eq name y) 1 0) n names, here, once names parts.1 name))
+    (cases_Bool (bytes_eq name n))
 
 distinct_from_once : (names : List (List ℕ)) → ((name : List ℕ) → count_by (bytes_eq name) names ≤ 1) → are_distinct names ≡ true
 distinct_from_once [] each = refl
