@@ -161,7 +161,7 @@ module _ (w : World) (ground : Grounded w) where
   range_written (kind.Words words) fit =
       let whole = length-integers (pos 0) (length words) in
       let few = leb-true (length (values_of (kind.Words words))) MOST_VALUES
-          (and_parts (nat_lt 0 (length (values_of (kind.Words words)))) (nat_le (length (values_of (kind.Words words))) MOST_VALUES) fit).1 in
+      (and_parts (nat_lt 0 (length (values_of (kind.Words words)))) (nat_le (length (values_of (kind.Words words))) MOST_VALUES) fit).1 in
       (refl, written_number (pos (length words) -ℤ pos 1) (omega (arith, ints)) (omega (arith, ints, few, whole)))
 
   domain_written : (d : ℕ) (domain : Domain) → slice_get w.domains d ≡ Some domain → (is_written (range_of_domain w d).low ≡ true) × (is_written (range_of_domain w d).high ≡ true)
@@ -442,7 +442,7 @@ module _ (w : World) (ground : Grounded w) where
       let nest = plain_of (formula.Implies f g) (nest_of-Implies f g) in
       let room = room_of (formula.Implies f g) in
       let parts = two (formula.Implies f g) f g vs room fit_f fit_g (uses-Implies w f g vs) (greatest_bound-Implies w f g vs)
-          (omega (arith, nest, grouped f)) (omega (arith, nest, grouped g)) right small in
+      (omega (arith, nest, grouped f)) (omega (arith, nest, grouped g)) right small in
       record {
         at = λ k ls rs place space.
             let shape : ShapeFits w (either (no (written w f k ls)) (written w g k ls)) rs = (parts.left.at k ls rs place space, parts.other.at k ls rs place space) in
@@ -454,7 +454,7 @@ module _ (w : World) (ground : Grounded w) where
       let nest = plain_of (formula.Iff f g) (nest_of-Iff f g) in
       let room = room_of (formula.Iff f g) in
       let parts = two (formula.Iff f g) f g vs room fit_f fit_g (uses-Iff w f g vs) (greatest_bound-Iff w f g vs)
-          (omega (arith, nest, grouped f)) (omega (arith, nest, grouped g)) right small in
+      (omega (arith, nest, grouped f)) (omega (arith, nest, grouped g)) right small in
       record {
         at = λ k ls rs place space.
             let shape : ShapeFits w (equal (written w f k ls) (written w g k ls)) rs = (parts.left.at k ls rs place space, parts.other.at k ls rs place space) in

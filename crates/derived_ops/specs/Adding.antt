@@ -44,8 +44,8 @@ Equates left right old new at =
     (s u : Shape) (first middle : Writer) → Adds s first middle left → Adds u middle old right → Adds (equal s u) first new at
 
 -- how many negations stand round what is at some instant, and round its part: one each where it is to be at every instant
-abbrev pub nots_of : OneOp → ℕ
-nots_of one.Alw = 1
-nots_of one.AlwF = 1
-nots_of one.AlwP = 1
-nots_of o = 0
+abbrev pub negations_of : OneOp → ℕ
+negations_of one.Alw = 1
+negations_of one.AlwF = 1
+negations_of one.AlwP = 1
+negations_of o = 0
