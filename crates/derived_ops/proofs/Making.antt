@@ -1,11 +1,10 @@
 -- The rewriting of a specification makes a core, and it stands for the specification.
-use Rattle.std.proofs.Common.{◌≡◌, ℕ, zero, suc, ◌+◌, ◌<◌, ◌≤◌, Bool, true, false, ◌&&◌, nat_lt, List, [], ◌∷◌, ◌++◌, length, map, take, get_or, slice_get, slice_index_or, Some, refl, sym, ap, subst, ◌∙◌, arith}
+use Rattle.std.proofs.Common.{◌≡◌, ℕ, zero, suc, ◌+◌, ◌<◌, ◌≤◌, Bool, true, ◌&&◌, nat_lt, List, [], ◌∷◌, ◌++◌, length, map, take, get_or, slice_get, slice_index_or, Some, refl, sym, ap, subst, ◌∙◌, arith}
 use Rattle.std.specs.List.{list_all, flat_map, enumerate_from}
 use Rattle.std.specs.Option.{option_map}
 use Rattle.std.proofs.lemmas.Bool.{and_parts, and_from, lt-ltb, false≢true}
 use Rattle.std.proofs.lemmas.List.{append_assoc, append-nil, length-append, take_more}
 use Rattle.std.proofs.lemmas.Option.{none-some, same_Some, slice_get-map}
-use Rattle.trio_base.specs.declared.limits.TheConstants.{GREATEST_BOUND}
 use Rattle.trio_types.specs.declared.spec.Which.TheVariants as which
 use Rattle.trio_types.specs.declared.spec.DomainKind.{DomainKind}
 use Rattle.trio_types.specs.declared.spec.DomainKind.TheVariants as kind
@@ -16,9 +15,8 @@ use Rattle.trio_types.specs.declared.spec.Spec.{Spec}
 use Rattle.trio_types.specs.World.{World}
 use Rattle.trio_types.specs.Parts.{Parts, world_of_parts, claims_of, declarations_of}
 use Rattle.trio_types.specs.Kinds.{is_right, item_uses, uses}
-use Rattle.trio_types.specs.Bounds.{greatest, greatest_bound}
+use Rattle.trio_types.specs.Bounds.{greatest_bound}
 use Rattle.trio_types.specs.Nest.{nest_of, item_nest}
-use Rattle.trio_types.specs.Truth.{truth}
 use Rattle.trio_types.specs.WellFormed.{has_bool, is_well_formed, instant_fits}
 use Rattle.trio_types.specs.Verdict.{parts_of, world_of}
 use Rattle.trio_types.proofs.Lists.{all_left, all_right, all_flat, get_left, get_right}
@@ -31,9 +29,8 @@ use Rattle.trio_core.specs.declared.nodes.Core.{Core}
 use Rattle.trio_core.specs.Core.{core_truth}
 use Rattle.trio_core.specs.CoreShape.{Ranges, same_ranges, ranges_of, node_fits, root_fits, is_core}
 use Rattle.trio_core.specs.Stands.{world_of_core, RootStandsFor, StandsFor}
-use Rattle.trio_core.proofs.TermCases.{Each}
 use Rattle.trio_core.proofs.Flat.{core_truth_kept}
-use Rattle.derived_ops.specs.Shape.{Shape, before_last, nodes_of}
+use Rattle.derived_ops.specs.Shape.{before_last, nodes_of}
 use Rattle.derived_ops.specs.declared.writer.Writer.{Writer}
 use Rattle.derived_ops.specs.Rewriting.{written}
 use Rattle.derived_ops.specs.Adding.{Adds}

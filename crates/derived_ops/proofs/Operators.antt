@@ -1,9 +1,8 @@
 -- What is written of parts that keep truth keeps the truth of the operator on them.
-use Rattle.std.proofs.Common.{◌≡◌, ℕ, ◌+◌, ◌<◌, ◌≤◌, ℤ, pos, neg_ℤ, ◌+ℤ◌, ◌-ℤ◌, ◌≤ℤ◌, ◌<ℤ◌, Bool, true, false, not, ◌&&◌, ◌||◌, nat_lt, List, [], ◌∷◌, ◌++◌, Option, None, Some, filter, length, slice_get, slice_index_or, refl, sym, ap, ◌∙◌, arith, Decides}
-use Rattle.std.specs.Prelude.{int_lt, int_le}
+use Rattle.std.proofs.Common.{◌≡◌, ℕ, ◌+◌, ◌<◌, ℤ, pos, neg_ℤ, ◌+ℤ◌, ◌-ℤ◌, ◌≤ℤ◌, ◌<ℤ◌, Bool, true, false, not, ◌&&◌, nat_lt, List, [], ◌∷◌, ◌++◌, Option, None, Some, filter, length, slice_get, refl, sym, ap, ◌∙◌, arith, Decides}
 use Rattle.std.specs.List.{list_any, list_all}
 use Rattle.std.specs.Option.{option_map}
-use Rattle.std.proofs.lemmas.Bool.{false≢true, and_parts, and_from, not-true, ltb-true, lt-ltb}
+use Rattle.std.proofs.lemmas.Bool.{false≢true, and_parts, and_from, ltb-true, lt-ltb}
 use Rattle.std.proofs.lemmas.Int.{ints}
 use Rattle.std.proofs.lemmas.List.{length_push, get_or_push, get_or_append_left}
 use Rattle.trio_base.specs.declared.operators.Rel.{Rel}
@@ -17,21 +16,19 @@ use Rattle.trio_types.specs.declared.formula.Term.{Term}
 use Rattle.trio_types.specs.declared.formula.Term.TheVariants as term
 use Rattle.trio_types.specs.World.{World, integers, at_least_zero, instants_of, values_of, values_in}
 use Rattle.trio_types.specs.Values.{value}
-use Rattle.trio_types.specs.Truth.{Truth, relates, is_at_distance, at_distance, is_not_negative, is_ahead, is_behind, takes_now, takes_far}
+use Rattle.trio_types.specs.Truth.{Truth, relates, at_distance, is_not_negative, is_ahead, is_behind}
 use Rattle.trio_types.specs.Laws.{Ahead, Behind}
 use Rattle.trio_types.proofs.Integers.{Decides-int_lt, Decides-int_le}
 use Rattle.trio_types.proofs.Lists.{any_same, all_is_not_any}
 use Rattle.trio_types.proofs.ValueAt.{value-Number, value-Var}
-use Rattle.trio_types.proofs.Operators.{Tells, tells_ahead, tells_behind, guarded}
-use Rattle.trio_core.specs.Core.{numbers, not_truth, and_truth}
-use Rattle.trio_core.specs.CoreShape.{Range}
+use Rattle.trio_types.proofs.Operators.{Tells, tells_ahead, tells_behind}
+use Rattle.trio_core.specs.Core.{numbers, not_truth}
 use Rattle.derived_ops.specs.declared.joint.Way.{Way}
 use Rattle.derived_ops.specs.declared.joint.Way.TheVariants as way
-use Rattle.derived_ops.specs.Shape.{Shape}
 use Rattle.derived_ops.specs.Rewriting.{Levels, Written, renamed, opposite, range_of_kind, range_of_domain, for_some, last, towards, somewhere, dist_written, at_far, least_of, relation_of, within, throughout, next, up_to, until}
 use Rattle.derived_ops.proofs.Told.{shape_truth}
 use Rattle.derived_ops.proofs.Renaming.{pick, Below, below_more, below_new, pick_more, pick_new, moved, renamed_value, towards_value}
-use Rattle.derived_ops.proofs.Seeking.{some_number, there_at, at_there, any_inside, there_inside, seek, distance_to, Reaches, sought}
+use Rattle.derived_ops.proofs.Seeking.{there_at, at_there, there_inside, seek, distance_to, Reaches, sought}
 
 -- at each instant inside time what is written is true exactly where this is
 pub record KeepsTruth (w : World) (f : Written) (p : Truth) : Type 0 where

@@ -1,5 +1,5 @@
 -- Nodes that are appended behind those of parts.
-use Rattle.std.proofs.Common.{◌≡◌, ℕ, zero, suc, ◌+◌, ◌-◌, ℤ, List, [], ◌∷◌, ◌++◌, length, take, refl, sym, ap, ◌∙◌, arith, subst}
+use Rattle.std.proofs.Common.{◌≡◌, ℕ, ◌+◌, ◌-◌, ℤ, List, [], ◌∷◌, ◌++◌, length, take, refl, sym, ap, ◌∙◌, arith, subst}
 use Rattle.std.proofs.lemmas.List.{append_assoc, length-append, length_push}
 use Rattle.std.proofs.Math.Seq.{take-append_seam}
 use Rattle.trio_base.specs.declared.operators.Rel.{Rel}

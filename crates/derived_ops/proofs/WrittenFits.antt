@@ -1,11 +1,9 @@
 -- What a formula becomes fits: its terms, its ranges, and how many ranges stand round.
-use Rattle.std.proofs.Common.{◌≡◌, ℕ, zero, suc, ◌+◌, ◌-◌, ◌*◌, ◌/◌, ◌<◌, ◌≤◌, max, ℤ, pos, negsuc, neg_ℤ, ◌-ℤ◌, ◌≤ℤ◌, nat_abs, Bool, true, false, not, ◌&&◌, nat_lt, nat_le, List, [], ◌∷◌, ◌++◌, map, length, take, drop, slice_get, Option, None, Some, refl, sym, ap, ◌∙◌, arith}
+use Rattle.std.proofs.Common.{◌≡◌, ℕ, zero, suc, ◌+◌, ◌*◌, ◌/◌, ◌<◌, ◌≤◌, max, ℤ, pos, negsuc, neg_ℤ, ◌-ℤ◌, ◌≤ℤ◌, Bool, true, false, nat_lt, nat_le, List, [], ◌∷◌, ◌++◌, map, length, take, drop, slice_get, Some, refl, sym, ap, ◌∙◌, arith}
 use Rattle.std.specs.Prelude.{int_le}
 use Rattle.std.specs.List.{list_all, flat_map}
-use Rattle.std.specs.Option.{option_map}
 use Rattle.std.proofs.lemmas.Bool.{and_parts, and_from, false≢true, leb-true}
 use Rattle.std.proofs.lemmas.Int.{ints}
-use Rattle.std.proofs.lemmas.List.{length_push}
 use Rattle.std.proofs.lemmas.Option.{none-some}
 use Rattle.trio_base.specs.declared.limits.TheConstants.{GREATEST_BOUND, MOST_VALUES}
 use Rattle.trio_base.specs.declared.operators.Rel.{Rel}
@@ -24,10 +22,10 @@ use Rattle.trio_types.specs.declared.formula.Term.{Term}
 use Rattle.trio_types.specs.declared.formula.Term.TheVariants as term
 use Rattle.trio_types.specs.declared.formula.Formula.{Formula}
 use Rattle.trio_types.specs.declared.formula.Formula.TheVariants as formula
-use Rattle.trio_types.specs.World.{World, integers, values_of, size_of}
+use Rattle.trio_types.specs.World.{World, integers, values_of}
 use Rattle.trio_types.specs.Kinds.{is_right, has_kind, kind_in, kind_of_constant, term_uses, uses}
 use Rattle.trio_types.specs.Bounds.{Bound, bounded, greatest, domain_bound, bound_of, greatest_bound}
-use Rattle.trio_types.specs.Nest.{FormulaNest, nest_of, nest_of_term}
+use Rattle.trio_types.specs.Nest.{FormulaNest, nest_of}
 use Rattle.trio_types.specs.WellFormed.{is_written, values_fit}
 use Rattle.trio_types.proofs.Integers.{Decides-int_le}
 use Rattle.trio_types.proofs.Lists.{all_left, all_right, get_left, get_right}
@@ -43,9 +41,9 @@ use Rattle.derived_ops.specs.declared.joint.Joint.{Joint}
 use Rattle.derived_ops.specs.declared.joint.Joint.TheVariants as joint
 use Rattle.derived_ops.specs.declared.joint.Way.{Way}
 use Rattle.derived_ops.specs.declared.joint.Way.TheVariants as way
-use Rattle.derived_ops.specs.Shape.{Shape, atom, no, both, either, exists, dist, equal}
-use Rattle.derived_ops.specs.Rewriting.{Levels, Written, renamed, opposite, joined, of_none, of_two, all_joined, range_of_kind, range_of_domain, for_some, last, towards, somewhere, one_written, dist_written, at_far, least_of, relation_of, within, throughout, next, far_written, up_to, until, way_of, written}
-use Rattle.derived_ops.proofs.FormulaCases.{FormulaCases, every_formula}
+use Rattle.derived_ops.specs.Shape.{Shape, atom, no, either, equal}
+use Rattle.derived_ops.specs.Rewriting.{Levels, Written, renamed, opposite, joined, of_none, of_two, all_joined, range_of_kind, range_of_domain, for_some, last, somewhere, one_written, dist_written, at_far, least_of, within, throughout, next, far_written, until, way_of, written}
+use Rattle.derived_ops.proofs.FormulaCases.{every_formula}
 use Rattle.derived_ops.proofs.WrittenAt.{written-Lone, written-Compare, written-Not, written-And, written-Or, written-Implies, written-Iff, written-All, written-Ex, written-One, written-Far, written-Pair}
 use Rattle.derived_ops.proofs.Placed.{ShapeFits}
 use Rattle.derived_ops.proofs.TermsPlaced.{Place, place_new, place_own, renamed_fits, number_fits, variable_fits, towards_fits, small_range}

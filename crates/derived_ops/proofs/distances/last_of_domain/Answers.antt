@@ -1,5 +1,5 @@
 -- The last index of a list of words.
-use Rattle.std.proofs.Common.{◌≡◌, ℕ, ℤ, pos, ◌-ℤ◌, length, to_z, of_z, w64, arith, ap, ◌∙◌}
+use Rattle.std.proofs.Common.{◌≡◌, pos, ◌-ℤ◌, length, to_z, of_z, w64, arith, ap, ◌∙◌}
 use Rattle.std.proofs.lemmas.Int.{ints}
 use Rattle.trio_types.specs.World.{size_of}
 use Rattle.trio_types.proofs.Domains.{count_of_values, size_at}

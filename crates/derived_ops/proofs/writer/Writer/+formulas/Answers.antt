@@ -1,5 +1,5 @@
 -- At each form of formula: what was appended is its shape.
-use Rattle.std.proofs.Common.{◌≡◌, ℕ, ◌+◌, map, arith, refl, sym, ap, ◌∙◌}
+use Rattle.std.proofs.Common.{◌≡◌, ℕ, ◌+◌, map, arith, refl, ap, ◌∙◌}
 use Rattle.trio_base.specs.declared.operators.Rel.TheVariants as rel
 use Rattle.trio_base.specs.declared.operators.Ends.TheVariants as ends
 use Rattle.trio_types.specs.declared.formula.Term.TheVariants as term
@@ -8,7 +8,7 @@ use Rattle.derived_ops.specs.Shape.{atom, no, exists, dist}
 use Rattle.derived_ops.specs.Rewriting.{Levels, renamed, all_joined, towards, within, up_to, written}
 use Rattle.derived_ops.specs.Distances.{lowest, highest}
 use Rattle.derived_ops.specs.Adding.{negated, many_opposite, negations_of}
-use Rattle.derived_ops.proofs.Weights.{weight, weights, weight-Not, weight-And, weight-Or, weight-Implies, weight-Iff, weight-All, weight-Ex, weight-One, weight-Far, weight-Pair, one_weight, front_weight, back_weight}
+use Rattle.derived_ops.proofs.Weights.{weight, weights, weight-Not, weight-And, weight-Or, weight-Implies, weight-Iff, weight-All, weight-Ex, weight-One, weight-Far, weight-Pair, front_weight, back_weight}
 use Rattle.derived_ops.proofs.Halves.{half_of, halved, halves}
 use Rattle.derived_ops.proofs.WrittenAt.{written-Lone, written-Compare, written-Not, written-And, written-Or, written-Implies, written-Iff, written-All, written-Ex, written-One, written-Far, written-Pair}
 use Rattle.derived_ops.proofs.Writing.{as_shape, as_written, framed, popped, add_atom, add_no, add_exists, add_dist, add_both, add_either, add_two, one_is}
