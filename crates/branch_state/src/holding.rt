@@ -1,5 +1,5 @@
 //! Whether a branch holds in a table.
-ghost use Rattle.std.specs.Prelude.{◌≡◌, ◌<◌, length, map};
+ghost use Rattle.std.specs.Prelude.{◌≡◌, map};
 ghost use Rattle.std.specs.List.{All, list_all};
 ghost use Rattle.trio_types.specs.Cells.{IsTable};
 ghost use Rattle.branch_state.specs.Posed.{world_of_problem};
