@@ -14,7 +14,7 @@ use Rattle.trio_core.specs.Sets.{members}
 use Rattle.trio_core.specs.Three.{Value3, term_value3, part_value3, known_all, known_at}
 
 -- the members of the set of the cell of this number, in order; there are none where there is no such cell
-abbrev members_of : World → Option (Cell × ℕ) → List ℕ
+abbrev pub members_of : World → Option (Cell × ℕ) → List ℕ
 members_of world None = []
 members_of world (Some q) = members (cell_size world q.0) q.1
 
