@@ -1,3 +1,5 @@
 -- The lemmas of the crate.
-mod Bits
-mod Cutting
+pub mod Bits
+pub mod Cutting
+pub mod Truths
+pub mod Rows
