@@ -3,3 +3,6 @@ pub mod Bits
 pub mod Cutting
 pub mod Truths
 pub mod Rows
+pub mod Undecided
+pub mod ReadOrder
+pub mod Atoms

@@ -56,7 +56,7 @@ FateLaw p sets w (Cuts None) = ⊥
 FateLaw p sets w (Cuts (Some cell)) = is_undecided (world_of_core p.core) sets cell ≡ true
 
 -- weights of one and of two wants
-weight_one : (p : Posed) (w : Want) → wants_weight p (w ∷ []) ≡ want_weight p w
+pub weight_one : (p : Posed) (w : Want) → wants_weight p (w ∷ []) ≡ want_weight p w
 weight_one p w = omega (arith, sum_by-cons (want_weight p) w [])
 
 weight_two : (p : Posed) (w v : Want) → wants_weight p (w ∷ v ∷ []) ≡ want_weight p w + want_weight p v
@@ -86,14 +86,14 @@ two_part p sets w a b c adds less_left less_right fit_a fit_b fit_c = record {
 }
 
 -- the truth of a want's node
-abbrev truth_of : Posed → List ℕ → Want → Bool
+abbrev pub truth_of : Posed → List ℕ → Want → Bool
 truth_of p table w = core_truth_from (world_of_core p.core) p.core.nodes w.node w.from w.env table w.now
 
 holds_is : (p : Posed) (table : List ℕ) (w : Want) → want_holds p table w ≡ has_sign w.sign (truth_of p table w)
 unfolding want_holds
 holds_is p table w = refl
 
-holds_by : (p : Posed) (table : List ℕ) (w : Want) (s b : Bool) → w.sign ≡ s → truth_of p table w ≡ b → want_holds p table w ≡ has_sign s b
+pub holds_by : (p : Posed) (table : List ℕ) (w : Want) (s b : Bool) → w.sign ≡ s → truth_of p table w ≡ b → want_holds p table w ≡ has_sign s b
 holds_by p table w s b sign is = holds_is p table w ∙ ap (λ r. has_sign r (truth_of p table w)) sign ∙ ap (has_sign s) is
 
 -- of two truths
