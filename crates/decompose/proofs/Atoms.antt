@@ -1,7 +1,6 @@
 -- Wants whose truth is known, of atoms and at a distance; and with them the fate of every want.
-use Rattle.std.proofs.Common.{◌≡◌, ◌⊎◌, inl, inr, ℕ, zero, suc, ◌+◌, ◌<◌, ◌≤◌, ℤ, pos, ◌+ℤ◌, Bool, true, false, not, ◌&&◌, ◌||◌, List, [], ◌∷◌, ◌++◌, map, length, filter, find, drop, Option, None, Some, slice_get, refl, sym, ap, ◌∙◌, subst, arith}
+use Rattle.std.proofs.Common.{◌≡◌, ◌⊎◌, inl, inr, ℕ, zero, suc, ◌+◌, ◌<◌, ℤ, pos, ◌+ℤ◌, Bool, true, false, ◌&&◌, ◌||◌, List, [], ◌∷◌, ◌++◌, map, length, filter, Some, slice_get, refl, sym, ap, ◌∙◌, subst, arith}
 use Rattle.std.specs.List.{list_any, range_with_len}
-use Rattle.std.specs.Ordering.{int_eq}
 use Rattle.std.proofs.Math.Logic.{⊎_elim}
 use Rattle.std.proofs.lemmas.Bool.{cond-true, cond-false, cases_Bool, cases_lt, false_from_ne_true}
 use Rattle.std.proofs.lemmas.Bool.Decides.{Decides-int_eq}
@@ -22,8 +21,7 @@ use Rattle.trio_core.specs.declared.nodes.Known.{Known}
 use Rattle.trio_core.specs.declared.nodes.Known.TheVariants.{Nothing, Several, One}
 use Rattle.trio_core.specs.Core.{numbers, core_truth_from}
 use Rattle.trio_core.specs.Sets.{LiesIn}
-use Rattle.trio_core.specs.Three.{known_both, known_of_option, known_at, value3, sure, three_of_known, relates3, any3, core_truth3}
-use Rattle.trio_core.specs.Fits.{TermFits}
+use Rattle.trio_core.specs.Three.{known_of_option, known_at, value3, sure, three_of_known, any3, core_truth3}
 use Rattle.trio_core.specs.Stands.{world_of_core}
 use Rattle.trio_core.proofs.Decided.{truth_law}
 use Rattle.trio_core.proofs.Evaluating.{eval_atom, eval_exists, eval_dist}
@@ -39,7 +37,7 @@ use Rattle.branch_state.specs.Posed.{Posed}
 use Rattle.branch_state.specs.Branches.{has_sign, want_holds, WantFits}
 use Rattle.branch_state.proofs.Counted.{count_some, count-Dist}
 use Rattle.decompose.specs.Reads.{is_undecided, first_undecided, atom_cells, reading}
-use Rattle.decompose.specs.Rule.{Fate, Refuted, Becomes, Parts, Cuts, part_at, dist_row, row, fate_by, want_truth3, fate, wants_weight}
+use Rattle.decompose.specs.Rule.{Cuts, part_at, dist_row, row, fate_by, want_truth3, fate}
 use Rattle.decompose.proofs.ReadOrder.{several_of_both, any_of_either, reads_open}
 use Rattle.decompose.proofs.Rows.{Replaces, FateLaw, weight_one, truth_of, holds_by, not_law, and_law, or_law, exists_law}
 use Rattle.decompose.proofs.Truths.{truth_dist}

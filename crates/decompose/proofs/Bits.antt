@@ -1,5 +1,5 @@
 -- A set, one of its members alone, and the set without it.
-use Rattle.std.proofs.Common.{◌≡◌, ℕ, zero, suc, ◌+◌, ◌-◌, ◌/◌, ◌%◌, ◌^◌, ◌<◌, ◌≤◌, Bool, true, false, ◌==◌, nat_lt, List, [], ◌∷◌, ◌++◌, length, filter, Some, slice_get, refl, sym, ap, ◌∙◌, arith, pow-suc}
+use Rattle.std.proofs.Common.{◌≡◌, ℕ, zero, suc, ◌+◌, ◌-◌, ◌/◌, ◌^◌, ◌<◌, ◌≤◌, Bool, true, false, ◌==◌, nat_lt, [], ◌∷◌, ◌++◌, length, Some, slice_get, refl, sym, ap, ◌∙◌, arith, pow-suc}
 use Rattle.std.specs.Int.{bit_at}
 use Rattle.std.specs.List.{range_with_len}
 use Rattle.std.proofs.Math.Logic.{⊎_elim}
@@ -29,8 +29,15 @@ bits_split set (suc v) zero one =
 bits_split set (suc v) (suc u) one =
     let half : (set - 2 ^ suc v) / 2 ≡ set / 2 - 2 ^ v = omega (arith, pow-suc 2 v) in
     let half_power : 2 ^ suc v / 2 ≡ 2 ^ v = omega (arith, pow-suc 2 v) in
-    omega (arith, bit_at-suc set u, bit_at-suc (2 ^ suc v) u, bit_at-suc (set - 2 ^ suc v) u, ap (λ n. bit_at n u) half, ap (λ n. bit_at n u) half_power,
-    bits_split (set / 2) v u (sym (bit_at-suc set v) ∙ one))
+    omega (
+      arith,
+      bit_at-suc set u,
+      bit_at-suc (2 ^ suc v) u,
+      bit_at-suc (set - 2 ^ suc v) u,
+      ap (λ n. bit_at n u) half,
+      ap (λ n. bit_at n u) half_power,
+      bits_split (set / 2) v u (sym (bit_at-suc set v) ∙ one),
+    )
 
 one_if_bit : (b : ℕ) → b < 2 → one_if (b == 1) ≡ b
 one_if_bit zero small = refl
@@ -40,8 +47,13 @@ one_if_bit (suc (suc b)) small = absurd (omega arith)
 -- each member of a set is the one, or one of the others
 pub has_split : (set v u : ℕ) → set_has set v ≡ true → one_if (set_has set u) ≡ one_if (set_has (single_set v) u) + one_if (set_has (set - single_set v) u)
 has_split set v u has =
-    omega (arith, one_if_bit (bit_at set u) (bit_at-lt set u), one_if_bit (bit_at (2 ^ v) u) (bit_at-lt (2 ^ v) u),
-    one_if_bit (bit_at (set - 2 ^ v) u) (bit_at-lt (set - 2 ^ v) u), bits_split set v u (eqb-true (bit_at set v) 1 has))
+    omega (
+      arith,
+      one_if_bit (bit_at set u) (bit_at-lt set u),
+      one_if_bit (bit_at (2 ^ v) u) (bit_at-lt (2 ^ v) u),
+      one_if_bit (bit_at (set - 2 ^ v) u) (bit_at-lt (set - 2 ^ v) u),
+      bits_split set v u (eqb-true (bit_at set v) 1 has),
+    )
 
 -- what is left is a part of the set
 pub left_has : (set v u : ℕ) → set_has set v ≡ true → set_has (set - single_set v) u ≡ true → set_has set u ≡ true

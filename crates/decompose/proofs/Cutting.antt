@@ -1,30 +1,28 @@
 -- The two halves of a branch that is parted by the values of a cell.
-use Rattle.std.proofs.Common.{◌≡◌, ℕ, zero, suc, ◌+◌, ◌-◌, ◌<◌, ◌≤◌, Bool, true, false, ◌&&◌, ◌==◌, nat_lt, List, [], ◌∷◌, length, All, Option, None, Some, slice_get, slice_set, slice_index_or, zip, filter, refl, sym, ap, ◌∙◌, subst, arith}
-use Rattle.std.specs.List.{list_all, sum_by, range_with_len}
+use Rattle.std.proofs.Common.{◌≡◌, ℕ, zero, suc, ◌+◌, ◌-◌, ◌<◌, ◌≤◌, Bool, true, false, ◌&&◌, List, [], ◌∷◌, length, Option, None, Some, slice_get, slice_set, slice_index_or, zip, refl, sym, ap, ◌∙◌, subst, arith}
+use Rattle.std.specs.List.{list_all, sum_by}
 use Rattle.std.proofs.lemmas.Bool.{and_parts, and_from, ltb-true}
 use Rattle.std.proofs.lemmas.List.Sums.{sum_by-cons}
 use Rattle.std.proofs.lemmas.Option.{none-some, same_Some, slice_get_within, get_or_from_slice_get}
 use Rattle.trio_types.specs.World.{World}
 use Rattle.trio_types.specs.Cells.{Cell, cells_of, cell_size}
 use Rattle.trio_types.proofs.Lists.{each_of, all_from_each}
-use Rattle.trio_core.specs.Sets.{set_has, members, is_set, is_within, AreSets, Shrink}
+use Rattle.trio_core.specs.Sets.{set_has, members, is_set, is_within, Shrink}
 use Rattle.trio_core.specs.Stands.{world_of_core}
 use Rattle.trio_core.proofs.Looks.{zip_at, member_at}
 use Rattle.trio_core.proofs.Sole.{member_in}
 use Rattle.trio_core.proofs.Standing.{same_world}
 use Rattle.trio_lists.proofs.Filters.{one_if}
 use Rattle.branch_state.specs.declared.branch.Want.{Want}
-use Rattle.branch_state.specs.declared.branch.Branch.{Branch}
 use Rattle.branch_state.specs.Posed.{Posed, IsPosed, world_of_problem}
-use Rattle.branch_state.specs.Models.{IsModel}
-use Rattle.branch_state.specs.Branches.{branch, single_set, lies_in, want_holds, keeps, root_sets, WantFits, Fits}
-use Rattle.branch_state.specs.Weight.{want_weight, sets_weight, weight}
+use Rattle.branch_state.specs.Branches.{branch, single_set, lies_in, want_holds, root_sets, Fits}
+use Rattle.branch_state.specs.Weight.{sets_weight}
 use Rattle.branch_state.proofs.Represented.{reps_split}
 use Rattle.branch_state.proofs.SetsFit.{only_single, single_is_set}
 use Rattle.decompose.specs.Reads.{members_of, members_at, is_undecided}
-use Rattle.decompose.specs.Rule.{least_of_cell, least_alone, least_left_out, cut_cell}
+use Rattle.decompose.specs.Rule.{cut_cell}
 use Rattle.decompose.specs.Law.{AreHalves, KeepsLaw}
-use Rattle.decompose.proofs.Bits.{has_split, left_has, Without, without}
+use Rattle.decompose.proofs.Bits.{has_split, left_has, without}
 
 -- lists in which one entry is another
 length_with : (sets : List ℕ) (n s : ℕ) → length (slice_set sets n s) ≡ length sets
@@ -67,7 +65,7 @@ sum_with h (d ∷ cells) (y ∷ sets) (suc n) c s x at old =
     omega (arith, sum_by-cons h (d, y) (zip cells (slice_set sets n s)), sum_by-cons h (d, y) (zip cells sets), sum_with h cells sets n c s x at old)
 
 -- 0 and 1 for what two conditions say together
-both_left : (a b c r : Bool) → one_if a ≡ one_if b + one_if c → one_if (a && r) ≡ one_if (b && r) + one_if (c && r)
+pub both_left : (a b c r : Bool) → one_if a ≡ one_if b + one_if c → one_if (a && r) ≡ one_if (b && r) + one_if (c && r)
 both_left true true true r adds = absurd (omega (arith, adds))
 both_left true true false r adds = omega arith
 both_left true false true r adds = omega arith
@@ -102,7 +100,7 @@ pub record Several (w : World) (sets : List ℕ) (n : ℕ) : Type 0 where
   pub set_is : slice_index_or sets n 0 ≡ set
   pub value_is : slice_index_or (members_at w sets n) 0 0 ≡ value
 
-parts_of_zip : {X Y : Type 0} (xs : List X) (ys : List Y) (n : ℕ) (q : X × Y) → slice_get (zip xs ys) n ≡ Some q → (slice_get xs n ≡ Some q.0) × (slice_get ys n ≡ Some q.1)
+pub parts_of_zip : {X Y : Type 0} (xs : List X) (ys : List Y) (n : ℕ) (q : X × Y) → slice_get (zip xs ys) n ≡ Some q → (slice_get xs n ≡ Some q.0) × (slice_get ys n ≡ Some q.1)
 parts_of_zip [] ys n q at = absurd (none-some q at)
 parts_of_zip (x ∷ xs) [] n q at = absurd (none-some q at)
 parts_of_zip (x ∷ xs) (y ∷ ys) zero q at = (ap (λ p. Some p.0) (same_Some (x, y) q at), ap (λ p. Some p.1) (same_Some (x, y) q at))

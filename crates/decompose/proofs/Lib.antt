@@ -6,3 +6,6 @@ pub mod Rows
 pub mod Undecided
 pub mod ReadOrder
 pub mod Atoms
+pub mod OnlyTable
+pub mod Settling
+pub mod Lawful

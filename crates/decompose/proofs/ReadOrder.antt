@@ -1,5 +1,5 @@
 -- The cells that a term reads: where several values of it are known, it reads an undecided cell.
-use Rattle.std.proofs.Common.{◌≡◌, ◌⊎◌, inl, inr, ℕ, ◌+◌, ℤ, pos, neg_ℤ, ◌+ℤ◌, ◌*ℤ◌, Bool, true, false, ◌&&◌, ◌||◌, if◌then◌else◌, List, [], ◌∷◌, ◌++◌, map, length, Option, None, Some, slice_get, refl, sym, ap, ◌∙◌, arith}
+use Rattle.std.proofs.Common.{◌≡◌, ◌⊎◌, inl, inr, ℕ, ℤ, pos, neg_ℤ, ◌+ℤ◌, ◌*ℤ◌, Bool, true, false, ◌||◌, if◌then◌else◌, List, [], ◌∷◌, ◌++◌, map, length, Option, None, Some, refl, sym, ap, ◌∙◌}
 use Rattle.std.specs.List.{list_all, list_any, flat_map}
 use Rattle.std.specs.Option.{option_and_then, option_to_list}
 use Rattle.std.proofs.Math.Logic.{⊎_elim}
@@ -10,16 +10,16 @@ use Rattle.trio_types.specs.declared.formula.Term.{Term}
 use Rattle.trio_types.specs.declared.formula.Term.TheVariants as term
 use Rattle.trio_types.specs.declared.formula.Term.TheOpen.{Term-F, SignedTerm-F}
 use Rattle.trio_types.specs.declared.formula.Term.TheOpen as open_term
-use Rattle.trio_types.specs.declared.formula.Term.TheFolds.{fold-Term, fold-SignedTerm, map-Term, fold-roll-Term, fold_out-SignedTerm}
+use Rattle.trio_types.specs.declared.formula.Term.TheFolds.{fold-SignedTerm, map-Term, fold-roll-Term, fold_out-SignedTerm}
 use Rattle.trio_types.specs.declared.formula.Term.TheViews.{roll-Term}
 use Rattle.trio_types.specs.World.{World}
 use Rattle.trio_types.specs.Cells.{Cell}
 use Rattle.trio_types.specs.Values.{read_cell}
-use Rattle.trio_types.proofs.Lists.{map-map, map_same}
+use Rattle.trio_types.proofs.Lists.{map-map}
 use Rattle.trio_core.specs.declared.nodes.Known.{Known}
 use Rattle.trio_core.specs.declared.nodes.Known.TheVariants.{Nothing, Several, One}
 use Rattle.trio_core.specs.CoreShape.{reaches}
-use Rattle.trio_core.specs.Three.{Value3, term_value3, known_both, known_map, known_then, known_all, known_of_cell, known_sum, value3}
+use Rattle.trio_core.specs.Three.{known_both, known_map, known_then, known_all, known_of_cell, known_sum, value3}
 use Rattle.trio_core.proofs.TermCases.{Each, term_of, every_term}
 use Rattle.trio_core.proofs.TermsAt.{reaches-Read, reaches-Sum, reaches-Times}
 use Rattle.trio_core.proofs.Value3At.{signed_value3, value3-Number, value3-Value, value3-Var, value3-Read, value3-Sum, value3-Times}
@@ -68,7 +68,6 @@ several_of_signed false k is = is
 
 module _ (w : World) (e : List ℤ) (look : Cell → Known ℤ) (i : ℕ) (q : ℕ → Bool)
     (seen : (c : Cell) → look c ≡ Several → (n : ℕ) × (cell_number w c ≡ Some n) × (q n ≡ true)) where
-
   -- a term's value is as in its evaluation, and where it is one of several the term reads a cell that passes
   record ReadsRight (x : Term) : Type 0 where
     value : (reading w x e look i).value ≡ value3 w x e look i

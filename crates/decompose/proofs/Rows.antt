@@ -1,22 +1,16 @@
 -- The rows of the rule, each of one want: what the new wants say together is what the want says.
-use Rattle.std.proofs.Common.{◌≡◌, ℕ, zero, suc, ◌+◌, ◌-◌, ◌*◌, ◌<◌, ◌≤◌, ℤ, pos, ◌+ℤ◌, Bool, true, false, not, ◌&&◌, ◌||◌, ◌==◌, nat_le, List, [], ◌∷◌, ◌++◌, map, length, drop, All, Option, None, Some, slice_get, refl, sym, ap, ◌∙◌, arith, suc-mul}
-use Rattle.std.specs.List.{list_all, list_any, sum_by}
+use Rattle.std.proofs.Common.{◌≡◌, ℕ, suc, ◌+◌, ◌-◌, ◌*◌, ◌<◌, ℤ, pos, ◌+ℤ◌, Bool, true, false, not, ◌&&◌, ◌||◌, List, [], ◌∷◌, length, All, None, Some, slice_get, refl, sym, ap, ◌∙◌, arith, suc-mul}
+use Rattle.std.specs.List.{list_all}
 use Rattle.std.proofs.Math.Path.{ap₂}
 use Rattle.std.proofs.lemmas.Bool.{le-leb}
-use Rattle.std.proofs.lemmas.List.{drop_all}
 use Rattle.std.proofs.lemmas.List.Elements.{All-cons, All-nil}
 use Rattle.std.proofs.lemmas.List.Sums.{sum_by-cons}
-use Rattle.trio_types.specs.declared.formula.Term.{Term}
-use Rattle.trio_types.specs.Truth.{at_distance}
-use Rattle.trio_types.specs.Values.{value}
 use Rattle.trio_core.specs.declared.nodes.Node.{Node}
 use Rattle.trio_core.specs.declared.nodes.Node.TheVariants as node
-use Rattle.trio_core.specs.declared.nodes.Three.{Three}
-use Rattle.trio_core.specs.declared.nodes.Three.TheVariants as three
 use Rattle.trio_core.specs.Core.{numbers, core_truth_from}
 use Rattle.trio_core.specs.CoreShape.{parts_of_node, ranges_inside, ranges_round}
 use Rattle.trio_core.specs.Sets.{LiesIn}
-use Rattle.trio_core.specs.Stands.{world_of_core, lie_in, from_fits, NodeAsked}
+use Rattle.trio_core.specs.Stands.{world_of_core, lie_in, from_fits}
 use Rattle.trio_core.proofs.NodesFit.{PartAsked, part_asked, exists_body, exists_before}
 use Rattle.trio_core.proofs.Evaluating.{OneOf, one_of_numbers}
 use Rattle.trio_lists.proofs.Filters.{one_if}
@@ -24,8 +18,8 @@ use Rattle.branch_state.specs.declared.branch.Want.{Want}
 use Rattle.branch_state.specs.Posed.{Posed}
 use Rattle.branch_state.specs.Branches.{has_sign, want_holds, WantFits}
 use Rattle.branch_state.specs.Weight.{core_count, want_weight}
-use Rattle.branch_state.proofs.Counted.{count_some, count-Not, count-And, count-Or, count-Exists, count-Dist}
-use Rattle.decompose.specs.Rule.{Fate, Refuted, Becomes, Parts, Cuts, part, part_at, body, later, and_row, or_row, exists_row, wants_weight}
+use Rattle.branch_state.proofs.Counted.{count_some, count-Not, count-And, count-Or, count-Exists}
+use Rattle.decompose.specs.Rule.{Fate, Refuted, Becomes, Parts, Cuts, part, body, later, and_row, or_row, exists_row, wants_weight}
 use Rattle.decompose.specs.Reads.{is_undecided}
 use Rattle.decompose.proofs.Truths.{truth_not, truth_and, truth_or, truth_exists_next}
 
@@ -240,8 +234,12 @@ exists_law p sets w low high a fits at left s sign = by_sign s sign
 
     lighter : (s : Bool) → want_weight p (body w low a s) + want_weight p (later w) < want_weight p w
     lighter s =
-        omega (arith, count_next (length (numbers low high)) w.from (core_count p.core.nodes a 0) left,
-        count-Exists p.core.nodes w.node w.from a low high at before, count-Exists p.core.nodes w.node (w.from + 1) a low high at before)
+        omega (
+          arith,
+          count_next (length (numbers low high)) w.from (core_count p.core.nodes a 0) left,
+          count-Exists p.core.nodes w.node w.from a low high at before,
+          count-Exists p.core.nodes w.node (w.from + 1) a low high at before,
+        )
 
     is_either : (table : List ℕ) → truth_of p table w ≡ (truth_of p table (body w low a true) || truth_of p table (later w))
     is_either table = truth_exists_next (world_of_core p.core) p.core.nodes w.node w.from low high a (low +ℤ pos w.from) w.env table w.now at before here.at

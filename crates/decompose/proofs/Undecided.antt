@@ -1,9 +1,8 @@
 -- A cell of which several values are known has a number, and is undecided by it.
-use Rattle.std.proofs.Common.{◌≡◌, ◌⊎◌, inl, inr, ℕ, suc, ◌+◌, ◌<◌, ◌≤◌, ℤ, Bool, true, false, not, cond, ◌||◌, nat_lt, List, [], ◌∷◌, ◌++◌, length, Option, None, Some, find, position, slice_get, zip, refl, sym, ap, ◌∙◌, arith}
+use Rattle.std.proofs.Common.{◌≡◌, ℕ, suc, ◌+◌, ◌<◌, ℤ, Bool, true, false, not, cond, ◌||◌, nat_lt, List, [], ◌∷◌, length, Option, None, Some, find, slice_get, zip, refl, sym, ap, ◌∙◌, arith}
 use Rattle.std.specs.List.{position_or_len, list_any}
 use Rattle.std.specs.Option.{option_map}
-use Rattle.std.proofs.Math.Logic.{⊎_elim}
-use Rattle.std.proofs.lemmas.Bool.{cond-true, cond-false, cases_Bool, lt-ltb, false≢true}
+use Rattle.std.proofs.lemmas.Bool.{cond-true, cond-false, lt-ltb, false≢true}
 use Rattle.std.proofs.lemmas.Option.{none-some, same_Some}
 use Rattle.trio_types.specs.World.{World}
 use Rattle.trio_types.specs.Cells.{Cell, same_cell, cells_of, cell_values, cell_size, value_at}
@@ -74,9 +73,11 @@ undecided_of w sets c is = of_value (option_map (λ q. q.1) (find (λ q. same_ce
         let place = place_of (λ d. same_cell d c) (cells_of w) sets set at in
         let n = position_or_len (λ d. same_cell d c) (cells_of w) in
         let size : cell_size w place.cell ≡ cell_size w c = ap length (same_values w place.cell c place.passes) in
-        let more = many (cell_values w c) (members (cell_size w c) set) several in
-        (n, cond-true (nat_lt n (length (cells_of w))) (Some n) None (lt-ltb n (length (cells_of w)) place.inside),
-        ap (λ o. nat_lt 1 (length (members_of w o))) place.at ∙ ap (λ k. nat_lt 1 (length (members k set))) size ∙ lt-ltb 1 (length (members (cell_size w c) set)) more)
+        let more = many (cell_values w c) (members (cell_size w c) set) several in (
+          n,
+          cond-true (nat_lt n (length (cells_of w))) (Some n) None (lt-ltb n (length (cells_of w)) place.inside),
+          ap (λ o. nat_lt 1 (length (members_of w o))) place.at ∙ ap (λ k. nat_lt 1 (length (members k set))) size ∙ lt-ltb 1 (length (members (cell_size w c) set)) more,
+        )
 
 -- the first of a list that passes, where one does
 pub found : {X : Type 0} (q : X → Bool) (xs : List X) → list_any q xs ≡ true → (x : X) × (find q xs ≡ Some x) × (q x ≡ true)
