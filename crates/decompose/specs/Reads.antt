@@ -1,5 +1,5 @@
 -- Which cells have several values, which an atom reads, and in which order.
-use Rattle.std.specs.Prelude.{ℕ, ℤ, Bool, nat_lt, List, [], ◌∷◌, ◌++◌, Option, None, Some, map, length, slice_get, position, find, zip, flat_map, option_and_then, option_to_list}
+use Rattle.std.specs.Prelude.{ℕ, ℤ, Bool, nat_lt, List, [], ◌++◌, Option, None, Some, map, length, slice_get, position, find, zip, flat_map, option_and_then, option_to_list}
 use Rattle.std.specs.List.{range_with_len}
 use Rattle.trio_types.specs.declared.formula.Term.{Term}
 use Rattle.trio_types.specs.declared.formula.Term.TheOpen.{Term-F, SignedTerm-F}
