@@ -13,4 +13,4 @@ mod truth;
 pub use doms::Doms;
 pub use nodes::{Core, Known, MOST_ROUND, Node, Nodes, Root, Roots, Three};
 pub use trio_types::{Domains, Items, List, Rel, Term};
-pub use truth::{spec_truth3, truth3};
+pub use truth::{spec_truth3, truth3, truth3_in};

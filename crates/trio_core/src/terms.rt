@@ -1,5 +1,5 @@
 //! What sets tell of the values of terms.
-ghost use Rattle.std.specs.Prelude.{◌≡◌, ◌<◌};
+ghost use Rattle.std.specs.Prelude.{◌≡◌, ◌<◌, length, slice_get, Some};
 ghost use Rattle.trio_types.specs.declared.formula.Term.TheVariants as term_of;
 ghost use Rattle.trio_core.specs.Sets.{AreSets};
 ghost use Rattle.trio_core.specs.Three.{known_at, value3};
@@ -51,10 +51,18 @@ fn read(under: Interpretation<'_>, item: u32, args: &[Term], instant: u32) -> Kn
         indexes[place] = index;
     }
     let cell = declared.cell_of(item, &indexes[..args.len()], instant);
-    match sole_member(*under.doms.get(cell as usize)) {
+    match sole_member(set_of(under.doms, cell)) {
         Some(index) => Known::One(declared.value_at(asked.value, index)),
         None => Known::Several,
     }
+}
+
+/// The set of a cell.
+fn set_of(sets: &[u64], cell: u32) -> u64
+    requires { cell < length sets.now }
+    ensures { slice_get sets.now cell ≡ Some result }
+{
+    sets[cell as usize]
 }
 
 /// What is known of the sum of the parts, each with its sign.

@@ -20,6 +20,15 @@ pub fn truth3(core: &Core, node: u32, from: u32, now: u32, env: &[i64], doms: &D
     requires asked { NodeAsked core.now node from now env.now }
     ensures { result ≡ core_truth3 (world_of_core core.now) core.now.nodes node from env.now doms.now now }
 {
+    truth3_in(core, node, from, now, env, doms.as_slice())
+}
+
+/// The same under the sets of a slice.
+pub fn truth3_in(core: &Core, node: u32, from: u32, now: u32, env: &[i64], doms: &[u64]) -> Three
+    requires sets_fit { AreSets (world_of_core core.now) doms.now }
+    requires asked { NodeAsked core.now node from now env.now }
+    ensures { result ≡ core_truth3 (world_of_core core.now) core.now.nodes node from env.now doms.now now }
+{
     let under = Interpretation {
         core,
         doms,

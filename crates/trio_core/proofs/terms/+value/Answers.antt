@@ -294,8 +294,8 @@ read-cell_of-cell-requires-clause-args_in t c =
     let domain = argument_domain p f n asked c.get-asked.ensures k d is in slice_get_within core.domains d domain.0 domain.1 in
     ap (λ w. takes w n vs) same ∙ ap (λ o. item_takes w o vs) c.get-asked.ensures ∙ indexes_fit core.domains asked.args zs vs there found
 
-pub read-get-requires : goal.read-get-requires
-read-get-requires t c =
+pub read-set_of-requires : goal.read-set_of-requires
+read-set_of-requires t c =
     let core = c.args.under.core.now in
     let w = world_of_core core in
     let sets = c.args.under.doms.now in
@@ -348,8 +348,8 @@ read-sole_member-requires t c =
     let cell = the_cell n vs i in
     let m = c.cell_of-cell.result in
     let place = ap (λ w. slice_get (cells_of w) m) (sym same) ∙ c.cell_of-cell.ensures in
-    let set = c.get.result.now in
-    let is = set_of_cell w sets m set cell c.requires.sets_fit place c.get.ensures in
+    let set = c.set_of.result in
+    let is = set_of_cell w sets m set cell c.requires.sets_fit place c.set_of.ensures in
     ltb-true 0 set (and_parts _ _ is).0
 
 pub read-value_at-requires-clause-domain_in : goal.read-value_at-requires-clause-domain_in
@@ -389,8 +389,8 @@ read-value_at-requires-clause-index_in t c =
     let cell = the_cell n vs i in
     let m = c.cell_of-cell.result in
     let place = ap (λ w. slice_get (cells_of w) m) (sym same) ∙ c.cell_of-cell.ensures in
-    let set = c.get.result.now in
-    let is = set_of_cell w sets m set cell c.requires.sets_fit place c.get.ensures in
+    let set = c.set_of.result in
+    let is = set_of_cell w sets m set cell c.requires.sets_fit place c.set_of.ensures in
     let v = c.in-Some-sole_member.index in
     let alone = subst (IsSole (members (cell_size w cell) set)) c.in-Some-sole_member.is (c.sole_member.ensures (cell_size w cell) is) in
     let below = (member_in (cell_size w cell) set 0 v (ap (λ ms. slice_get ms 0) alone)).1 in
@@ -422,13 +422,13 @@ read-returns-in-Some-sole_member t c =
     let cell = the_cell n vs i in
     let m = c.cell_of-cell.result in
     let place = ap (λ w. slice_get (cells_of w) m) (sym same) ∙ c.cell_of-cell.ensures in
-    let set = c.get.result.now in
-    let is = set_of_cell w sets m set cell c.requires.sets_fit place c.get.ensures in
+    let set = c.set_of.result in
+    let is = set_of_cell w sets m set cell c.requires.sets_fit place c.set_of.ensures in
     let v = c.in-Some-sole_member.index in
     let alone = subst (IsSole (members (cell_size w cell) set)) c.in-Some-sole_member.is (c.sole_member.ensures (cell_size w cell) is) in
     let z = c.value_at.result in
     let value = ap (λ zs. slice_get zs v) (values_from_item w cell asked c.get-asked.ensures) ∙ ap (λ ds. slice_get (values_in ds asked.value) v) (sym c.declarations-declared.ensures.domains) ∙ c.value_at.ensures in
-    let known = read3_is w sets n args e i fits asked (Some vs) c.get-asked.ensures found ∙ known_single w sets m set v cell z c.requires.sets_fit place c.get.ensures alone value in
+    let known = read3_is w sets n args e i fits asked (Some vs) c.get-asked.ensures found ∙ known_single w sets m set v cell z c.requires.sets_fit place c.set_of.ensures alone value in
     sym (known ∙ ap One (passed z (term_near w sets (term.Read n args) e i fits z known)))
 
 pub read-returns-in-None : goal.read-returns-in-None
@@ -457,10 +457,10 @@ read-returns-in-None t c =
     let cell = the_cell n vs i in
     let m = c.cell_of-cell.result in
     let place = ap (λ w. slice_get (cells_of w) m) (sym same) ∙ c.cell_of-cell.ensures in
-    let set = c.get.result.now in
-    let is = set_of_cell w sets m set cell c.requires.sets_fit place c.get.ensures in
+    let set = c.set_of.result in
+    let is = set_of_cell w sets m set cell c.requires.sets_fit place c.set_of.ensures in
     let two = subst (IsSole (members (cell_size w cell) set)) c.in-None.is (c.sole_member.ensures (cell_size w cell) is) in
-    sym (read3_is w sets n args e i fits asked (Some vs) c.get-asked.ensures found ∙ known_several w sets m set cell c.requires.sets_fit place c.get.ensures two)
+    sym (read3_is w sets n args e i fits asked (Some vs) c.get-asked.ensures found ∙ known_several w sets m set cell c.requires.sets_fit place c.set_of.ensures two)
 
 pub sum-value_of-requires : goal.sum-value_of-requires
 sum-value_of-requires t c =
