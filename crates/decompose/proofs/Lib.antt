@@ -5,7 +5,8 @@ pub mod Truths
 pub mod Rows
 pub mod Undecided
 pub mod ReadOrder
-pub mod Atoms
+pub mod Fates
 pub mod OnlyTable
 pub mod Settling
 pub mod Lawful
+pub mod Enough
