@@ -1,4 +1,9 @@
 //! Round trips of texts, cores against the checker, three-valued truth, and the nodes of each operator.
+mod cores;
+mod histories;
 mod maker;
 mod round_trips;
+mod sets;
 mod spec_maker;
+mod tables;
+mod truth_rows;
