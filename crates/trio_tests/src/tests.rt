@@ -2,6 +2,8 @@
 mod cores;
 mod histories;
 mod maker;
+mod node_rows;
+mod nodes;
 mod round_trips;
 mod sets;
 mod spec_maker;
