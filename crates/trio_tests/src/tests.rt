@@ -4,6 +4,7 @@ mod histories;
 mod maker;
 mod node_rows;
 mod nodes;
+mod printing;
 mod round_trips;
 mod sets;
 mod spec_maker;

@@ -66,8 +66,8 @@ const UNDER_A_QUANTIFIER: [&str; 29] = [
     "ex x : d (WithinP_ii(n = x, x)) ~ v1 <= v0; n = v0; 1 at [-v1]; 0 & 2; ex 0..2 3; ex 0..1 4",
     "ex x : d (WithinP_ie(n = x, x)) ~ v1 < v0; n = v0; 1 at [-v1]; 0 & 2; ex 0..2 3; ex 0..1 4",
     "ex x : d (WithinP_ei(n = x, x)) ~ v1 <= v0; n = v0; 1 at [-v1]; 0 & 2; ex 1..2 3; ex 0..1 4",
-    "ex x : d (Until(n = x, q)) ~ q = true; 0 at v1; v2 < v1; n = v0; !3; 4 at v2; 2 & 5; ex 1..2 6; !7; 1 & 8; ex 1..2 9; ex 0..1 10",
-    "ex x : d (Since(n = x, q)) ~ q = true; 0 at [-v1]; v2 < v1; n = v0; !3; 4 at [-v2]; 2 & 5; ex 1..2 6; !7; 1 & 8; ex 1..2 9; ex 0..1 10",
+    "ex x : d (Until(n = x, g(x, red))) ~ g(v0, 0) = true; 0 at v1; v2 < v1; n = v0; !3; 4 at v2; 2 & 5; ex 1..2 6; !7; 1 & 8; ex 1..2 9; ex 0..1 10",
+    "ex x : d (Since(n = x, g(x, red))) ~ g(v0, 0) = true; 0 at [-v1]; v2 < v1; n = v0; !3; 4 at [-v2]; 2 & 5; ex 1..2 6; !7; 1 & 8; ex 1..2 9; ex 0..1 10",
     "ex x : d (NextTime(n = x, x)) ~ 0 <= v0; n = v0; 1 at v0; 0 & 2; v1 < v0; n = v0; !5; !6; 7 at v1; 4 & 8; ex 1..2 9; !10; 3 & 11; ex 0..1 12",
     "ex x : d (LastTime(n = x, x)) ~ 0 <= v0; n = v0; 1 at [-v0]; 0 & 2; v1 < v0; n = v0; !5; !6; 7 at [-v1]; 4 & 8; ex 1..2 9; !10; 3 & 11; ex 0..1 12",
 ];

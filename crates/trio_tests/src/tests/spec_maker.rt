@@ -57,8 +57,11 @@ const ITEMS: &str =
 
 /// The variables, by the bits of a scope.
 const X: u32 = 0;
+
 const Y: u32 = 1;
+
 const C: u32 = 2;
+
 const B: u32 = 3;
 
 /// How a formula with parts is written: a word, `(`, the parts with a text between, and the end.
@@ -138,7 +141,11 @@ impl SpecMaker {
         let words = "domain m = {red, green};\n";
         let more_words = "domain m = {red, green, blue};\n";
         self.one_of(&[words, more_words])?;
-        self.one_of(&["domain d = -1..1;\n", "domain d = 0..1;\n", "domain d = -2..-2;\n"])?;
+        self.one_of(&[
+            "domain d = -1..1;\n",
+            "domain d = 0..1;\n",
+            "domain d = -2..-2;\n",
+        ])?;
         self.one_of(&["domain e = 0..1;", "domain e = 1 .. 2 ;", "domain e=-1..0;"])?;
         self.write(ITEMS)
     }
