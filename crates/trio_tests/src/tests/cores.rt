@@ -1,17 +1,21 @@
 //! Cores of made specifications in made tables.
+ghost use Rattle.std.specs.Prelude.{IfOk};
 ghost use Rattle.trio_types.specs.Verdict.{world_of};
 ghost use Rattle.trio_types.specs.Cells.{IsTable};
+ghost use Rattle.trio_core.specs.Stands.{StandsFor};
+ghost use Rattle.history_table.specs.Fitting.{IsGiven};
 
 use super::maker::Maker;
 use super::sets::truth_under;
 use super::spec_maker::made_spec;
 use super::tables::{made_given, table_of};
+use derived_ops::rewrite;
 use history_check::{Verdict, check};
-use history_table::{Given, Table, given_text, read_history};
+use history_table::{Given, HistFault, Table, given_text, read_history};
 use std::alloc::{AllocError, Global};
 use std::process::Abort;
 use std::test::Fail;
-use trio_core::Three;
+use trio_core::{Core, Three};
 use trio_reader::read_spec;
 use trio_types::Spec;
 
@@ -53,11 +57,13 @@ fn wider_sets(alloc: Global, sets: &[u64], given: &Given) -> Result<Vec<u64>, Al
 fn agrees(
     rt: &(impl Abort + AllocGlobal),
     spec: &Spec,
+    core: &Core,
     table: &Table,
     wider: &Given,
     seen: &mut Seen,
 ) -> Result<(), Fail>
-    requires { IsTable (world_of spec.now) table.now }
+    requires stands { StandsFor core.now spec.now }
+    requires fits { IsTable (world_of spec.now) table.now }
 {
     let alloc = rt.alloc();
     let want = match check(alloc, spec, table)? {
@@ -65,9 +71,9 @@ fn agrees(
         Verdict::False(_, _) => Three::False,
     };
     let sets = single_sets(alloc, table)?;
-    assert_eq!(rt; truth_under(alloc, spec, sets.as_slice())?, Some(want));
+    assert_eq!(rt; truth_under(alloc, spec, core, sets.as_slice())?, Some(want));
     let words = wider_sets(alloc, sets.as_slice(), wider)?;
-    let found = truth_under(alloc, spec, words.as_slice())?;
+    let found = truth_under(alloc, spec, core, words.as_slice())?;
     assert!(rt; found == Some(want) || found == Some(Three::Unknown));
     count(seen, want, found == Some(Three::Unknown));
     Ok(())
@@ -84,7 +90,7 @@ fn count(seen: &mut Seen, truth: Three, is_open: bool) {
     }
 }
 
-/// Makes tables of a specification.
+/// Makes three tables of a specification.
 fn tables_agree(
     rt: &(impl Abort + AllocGlobal),
     spec: &Spec,
@@ -92,17 +98,25 @@ fn tables_agree(
     seen: &mut Seen,
 ) -> Result<(), Fail> {
     let alloc = rt.alloc();
-    for _ in 0..2 {
-        let whole = made_given(alloc, maker, spec, true)?;
-        let text = given_text(alloc, spec, &whole)?;
-        let given = read_history(alloc, spec, text.as_slice())?;
+    let core = rewrite(alloc, spec)?;
+    for _ in 0..3 {
+        let given = made_history(alloc, maker, spec)?;
         let Some(table) = table_of(alloc, spec, &given)? else {
             panic!(rt; "a value is not known");
         };
         let wider = made_given(alloc, maker, spec, false)?;
-        agrees(rt, spec, &table, &wider, seen)?;
+        agrees(rt, spec, &core, &table, &wider, seen)?;
     }
     Ok(())
+}
+
+/// A made history as its text is read.
+fn made_history(alloc: Global, maker: &mut Maker, spec: &Spec) -> Result<Given, HistFault>
+    ensures { IfOk result (IsGiven (world_of spec.now)) }
+{
+    let whole = made_given(alloc, maker, spec, true)?;
+    let text = given_text(alloc, spec, &whole)?;
+    read_history(alloc, spec, text.as_slice())
 }
 
 #[test]

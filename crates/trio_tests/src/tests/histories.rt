@@ -45,6 +45,19 @@ fn whole_comes_back(
     Ok(())
 }
 
+/// Makes three histories, of which one is whole.
+fn histories_come_back(
+    rt: &(impl Abort + AllocGlobal),
+    spec: &Spec,
+    maker: &mut Maker,
+) -> Result<(), Fail> {
+    for known in [false, true, false] {
+        let given = made_given(rt.alloc(), maker, spec, known)?;
+        comes_back(rt, spec, &given)?;
+    }
+    Ok(())
+}
+
 #[test]
 fn made_histories_come_back(rt: HostRuntime) -> Result<(), Fail> {
     let alloc = rt.alloc();
@@ -52,10 +65,7 @@ fn made_histories_come_back(rt: HostRuntime) -> Result<(), Fail> {
         let text = made_spec(alloc, number)?;
         let spec = read_spec(alloc, text.as_bytes())?;
         let mut maker = Maker::new(number);
-        let partial = made_given(alloc, &mut maker, &spec, false)?;
-        comes_back(&rt, &spec, &partial)?;
-        let whole = made_given(alloc, &mut maker, &spec, true)?;
-        comes_back(&rt, &spec, &whole)?;
+        histories_come_back(&rt, &spec, &mut maker)?;
     }
     Ok(())
 }

@@ -2,17 +2,20 @@
 ghost use Rattle.std.specs.Prelude.{◌≡◌, ◌++◌, ◌∷◌, [], IsTrue, IfOk, IfSome, OnOk};
 ghost use Rattle.trio_types.specs.Verdict.{world_of};
 ghost use Rattle.trio_core.specs.Sets.{AreSets, is_set};
+ghost use Rattle.trio_core.specs.Stands.{StandsFor};
 
-use derived_ops::rewrite;
 use std::alloc::{AllocError, Global};
-use trio_core::{Doms, Three, spec_truth3};
+use trio_core::{Core, Doms, Three, spec_truth3};
 use trio_types::{Spec, cell_count, cell_size};
 
 /// Whether a word is a set of indexes below a size, and not empty.
 fn fits(size: u32, word: u64) -> bool
     ensures { IsTrue result → IsTrue (is_set size word) }
 {
-    word != 0 && size < 64 && word >> size == 0
+    if word == 0 || size >= 64 {
+        return false;
+    }
+    word >> size == 0
 }
 
 fn add_set(sets: &mut Doms, word: u64) -> Result<(), AllocError>
@@ -41,11 +44,17 @@ fn sets_of(alloc: Global, spec: &Spec, words: &[u64]) -> Result<Option<Doms>, Al
     Ok(Some(sets))
 }
 
-/// The three-valued truth of the core of a specification; none where a word is no set of its cell.
-pub fn truth_under(alloc: Global, spec: &Spec, words: &[u64]) -> Result<Option<Three>, AllocError> {
-    let core = rewrite(alloc, spec)?;
+/// The three-valued truth of a specification's core; none where a word is no set of its cell.
+pub fn truth_under(
+    alloc: Global,
+    spec: &Spec,
+    core: &Core,
+    words: &[u64],
+) -> Result<Option<Three>, AllocError>
+    requires { StandsFor core.now spec.now }
+{
     let Some(sets) = sets_of(alloc, spec, words)? else {
         return Ok(None);
     };
-    Ok(Some(spec_truth3(&core, &sets)))
+    Ok(Some(spec_truth3(core, &sets)))
 }

@@ -1,5 +1,6 @@
 //! Worked rows of three-valued truth.
 use super::sets::truth_under;
+use derived_ops::rewrite;
 use std::process::Abort;
 use std::test::Fail;
 use trio_core::Three::{self, False, True, Unknown};
@@ -102,7 +103,8 @@ fn check_row(
     let alloc = rt.alloc();
     let text = format!(in alloc; "time {text}")?;
     let spec = read_spec(alloc, text.as_bytes())?;
-    let found = truth_under(alloc, &spec, words.as_slice())?;
+    let core = rewrite(alloc, &spec)?;
+    let found = truth_under(alloc, &spec, &core, words.as_slice())?;
     assert_eq!(rt; found, Some(want), "{text} {words:?}");
     Ok(())
 }
