@@ -1,1 +1,1 @@
-mod Pairs
+mod More

@@ -71,7 +71,10 @@ fn agrees(
         Verdict::False(_, _) => Three::False,
     };
     let sets = single_sets(alloc, table)?;
-    assert_eq!(rt; truth_under(alloc, spec, core, sets.as_slice())?, Some(want));
+    assert_eq!(rt;
+        truth_under(alloc, spec, core, sets.as_slice())?,
+        Some(want)
+    );
     let words = wider_sets(alloc, sets.as_slice(), wider)?;
     let found = truth_under(alloc, spec, core, words.as_slice())?;
     assert!(rt; found == Some(want) || found == Some(Three::Unknown));

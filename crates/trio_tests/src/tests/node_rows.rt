@@ -3,7 +3,6 @@ use super::nodes::shown;
 use derived_ops::rewrite;
 use std::process::Abort;
 use std::test::Fail;
-use trio_core::Root;
 use trio_reader::read_spec;
 
 /// Each operator.
@@ -132,11 +131,10 @@ fn check_row(rt: &(impl Abort + AllocGlobal), row: &str) -> Result<(), Fail> {
     let core = rewrite(alloc, &spec)?;
     let found = shown(alloc, &core)?;
     assert_eq!(rt; found.as_str(), want, "{formula}");
-    let root = Root {
-        node: core.nodes.len().saturating_sub(1) as u32,
-        at: None,
-    };
-    assert_eq!(rt; core.roots.as_slice(), [root].as_slice(), "{formula}");
+    assert_eq!(rt; core.roots.len(), 1, "{formula}");
+    let root = core.roots.get(0);
+    assert_eq!(rt; root.node as usize + 1, core.nodes.len(), "{formula}");
+    assert_eq!(rt; root.at, None, "{formula}");
     Ok(())
 }
 
