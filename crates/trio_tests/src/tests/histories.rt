@@ -61,7 +61,7 @@ fn histories_come_back(
 #[test]
 fn made_histories_come_back(rt: HostRuntime) -> Result<(), Fail> {
     let alloc = rt.alloc();
-    for number in 0_u64..20 {
+    for number in 0_u64..700 {
         let text = made_spec(alloc, number)?;
         let spec = read_spec(alloc, text.as_bytes())?;
         let mut maker = Maker::new(number);

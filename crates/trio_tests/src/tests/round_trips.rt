@@ -20,12 +20,12 @@ fn comes_back(rt: &(impl Abort + AllocGlobal), text: &str) -> Result<bool, Fail>
 #[test]
 fn made_specifications_come_back(rt: HostRuntime) -> Result<(), Fail> {
     let mut accepted = 0_u32;
-    for number in 0_u64..40 {
+    for number in 0_u64..2500 {
         let text = made_spec(rt.alloc(), number)?;
         if comes_back(&rt, text.as_str())? {
             accepted = accepted.saturating_add(1);
         }
     }
-    assert!(rt; accepted >= 40);
+    assert!(rt; accepted >= 2500);
     Ok(())
 }
