@@ -19,3 +19,8 @@ each_more P [] x all here zero u at = rw (← same_Some x u at) here
 each_more P [] x all here (suc k) u at = absurd (none-some u at)
 each_more P (z ∷ zs) x all here zero u at = all zero u at
 each_more P (z ∷ zs) x all here (suc k) u at = each_more P zs x (λ j v is. all (suc j) v is) here k u at
+
+-- no pair is there
+pub no_pairs : {X Y : Type 0} (q : X × Y → Bool) (xs : List X) → list_all q (zip xs []) ≡ true
+no_pairs q [] = refl
+no_pairs q (z ∷ zs) = refl

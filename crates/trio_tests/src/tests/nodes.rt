@@ -90,11 +90,11 @@ fn add_arguments(
     if args.is_empty() {
         return Ok(());
     }
-    let mut before = "(";
+    let mut is_first = true;
     for arg in args {
-        text.push_str(before)?;
+        text.push_str(if is_first { "(" } else { ", " })?;
         add_term(alloc, text, items, arg)?;
-        before = ", ";
+        is_first = false;
     }
     text.push_str(")")
 }
@@ -106,12 +106,13 @@ fn add_sum(
     items: &Items,
     parts: &[SignedTerm],
 ) -> Result<(), AllocError> {
-    let mut before = "[";
+    text.push_str("[")?;
+    let mut is_first = true;
     for part in parts {
-        text.push_str(before)?;
+        text.push_str(if is_first { "" } else { " " })?;
         text.push_str(if part.minus { "-" } else { "+" })?;
         add_term(alloc, text, items, &part.term)?;
-        before = " ";
+        is_first = false;
     }
     text.push_str("]")
 }
