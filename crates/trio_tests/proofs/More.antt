@@ -1,8 +1,8 @@
--- What holds of each element of a list, or of each pair of two, and of one more.
-use Rattle.std.proofs.Common.{◌≡◌, ℕ, zero, suc, Bool, true, List, [], ◌∷◌, ◌++◌, length, Some, slice_get, zip, refl, ap, ◌∙◌}
+-- What holds of each pair of two lists, and of one more.
+use Rattle.std.proofs.Common.{◌≡◌, Bool, true, List, [], ◌∷◌, ◌++◌, length, Some, slice_get, zip, refl, ap, ◌∙◌}
 use Rattle.std.specs.List.{list_all}
 use Rattle.std.proofs.lemmas.Bool.{and_parts, and_from}
-use Rattle.std.proofs.lemmas.Option.{none-some, same_Some}
+use Rattle.std.proofs.lemmas.Option.{same_Some}
 
 pub all_more : {X Y : Type 0} (q : X × Y → Bool) (xs : List X) (ys : List Y) (x : X) (y : Y) →
     list_all q (zip xs ys) ≡ true → slice_get xs (length ys) ≡ Some x → q (x, y) ≡ true → list_all q (zip xs (ys ++ y ∷ [])) ≡ true
@@ -12,13 +12,6 @@ all_more q (z ∷ v ∷ vs) [] x y all at is = and_from (q (z, y)) true (ap (λ 
 all_more q (z ∷ zs) (w ∷ ws) x y all at is =
     let r = and_parts (q (z, w)) (list_all q (zip zs ws)) all in
     and_from (q (z, w)) (list_all q (zip zs (ws ++ y ∷ []))) r.0 (all_more q zs ws x y r.1 at is)
-
-pub each_more : {X : Type 0} (P : X → Type 0) (xs : List X) (x : X) → ((k : ℕ) (u : X) → slice_get xs k ≡ Some u → P u) → P x →
-    (k : ℕ) (u : X) → slice_get (xs ++ x ∷ []) k ≡ Some u → P u
-each_more P [] x all here zero u at = rw (← same_Some x u at) here
-each_more P [] x all here (suc k) u at = absurd (none-some u at)
-each_more P (z ∷ zs) x all here zero u at = all zero u at
-each_more P (z ∷ zs) x all here (suc k) u at = each_more P zs x (λ j v is. all (suc j) v is) here k u at
 
 -- no pair is there
 pub no_pairs : {X Y : Type 0} (q : X × Y → Bool) (xs : List X) → list_all q (zip xs []) ≡ true

@@ -5,4 +5,4 @@ use Rattle.trio_types.specs.Cells.{cells_of}
 use Rattle.trio_tests.proofs.tests.printing.listed.Given as goal
 
 abbrev pub invariant-loop-text : goal.invariant-loop-text
-invariant-loop-text l = (k : ℕ) (table : List ℕ) → slice_get l.tables k ≡ Some table → length table ≡ length (cells_of (world_of l.spec))
+invariant-loop-text g l = (k : ℕ) (table : List ℕ) → slice_get l.tables k ≡ Some table → length table ≡ length (cells_of (world_of l.spec))
