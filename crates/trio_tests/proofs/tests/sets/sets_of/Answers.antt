@@ -1,5 +1,5 @@
 -- The answers to the goals of `sets_of`.
-use Rattle.std.proofs.Common.{rules, ◌≡◌, ◌++◌, ◌∷◌, [], IsTrue, true, length, Some, slice_get, zip, refl, ap, ◌∙◌, arith}
+use Rattle.std.proofs.Common.{rules, ◌≡◌, ◌∷◌, [], true, length, Some, slice_get, zip, ap, ◌∙◌, arith}
 use Rattle.std.specs.List.{list_all}
 use Rattle.std.specs.Option.{option_map}
 use Rattle.std.proofs.lemmas.List.{length-append}
@@ -12,10 +12,11 @@ use Rattle.trio_tests.proofs.tests.sets.sets_of.Goals as goal
 
 pub loop-cell-init : goal.loop-cell-init
 loop-cell-init c =
-    let w = world_of c.args.spec.now in
-    (ap length c.new-sets.ensures,
-    ap (λ s. list_all (λ p. is_set (cell_size w p.0) p.1) (zip (cells_of w) s)) c.new-sets.ensures
-    ∙ no_pairs (λ p. is_set (cell_size w p.0) p.1) (cells_of w))
+    let w = world_of c.args.spec.now in (
+      ap length c.new-sets.ensures,
+      ap (λ s. list_all (λ p. is_set (cell_size w p.0) p.1) (zip (cells_of w) s)) c.new-sets.ensures
+          ∙ no_pairs (λ p. is_set (cell_size w p.0) p.1) (cells_of w),
+    )
 
 pub loop-cell-preserved : goal.loop-cell-preserved
 loop-cell-preserved c =
@@ -25,7 +26,8 @@ loop-cell-preserved c =
     let size = c.cell_size.result in
     let is : is_set size set ≡ true = search rules in
     let sized : option_map (cell_size w) (slice_get (cells_of w) (length sets)) ≡ Some size =
-    ap (λ n. option_map (cell_size w) (slice_get (cells_of w) n)) c.loop-cell.invariant.0 ∙ c.cell_size.ensures in
-    (omega (arith, ap length c.in_ok-add_set.ensures, length-append sets (set ∷ []), c.loop-cell.invariant.0),
-    ap (λ s. list_all (λ p. is_set (cell_size w p.0) p.1) (zip (cells_of w) s)) c.in_ok-add_set.ensures
-    ∙ one_more_set w sets size set c.loop-cell.invariant.1 sized is)
+    ap (λ n. option_map (cell_size w) (slice_get (cells_of w) n)) c.loop-cell.invariant.0 ∙ c.cell_size.ensures in (
+      omega (arith, ap length c.in_ok-add_set.ensures, length-append sets (set ∷ []), c.loop-cell.invariant.0),
+      ap (λ s. list_all (λ p. is_set (cell_size w p.0) p.1) (zip (cells_of w) s)) c.in_ok-add_set.ensures
+          ∙ one_more_set w sets size set c.loop-cell.invariant.1 sized is,
+    )
