@@ -1,5 +1,5 @@
 -- The law of one step: what the rule makes of a branch represents what the branch represents.
-use Rattle.std.specs.Prelude.{◌≡◌, ◌<◌, ℕ, List, [], ◌∷◌, ◌++◌}
+use Rattle.std.specs.Prelude.{◌≡◌, ◌<◌, [], ◌∷◌, ◌++◌}
 use Rattle.trio_core.specs.declared.nodes.Three.TheVariants as three
 use Rattle.trio_core.specs.Stands.{spec_truth3}
 use Rattle.trio_lists.specs.Multisets.{Permutes}

@@ -1,5 +1,5 @@
 -- Which cells have several values, which an atom reads, and in which order.
-use Rattle.std.specs.Prelude.{ℕ, ℤ, if◌then◌else◌, nat_lt, Bool, List, [], ◌∷◌, ◌++◌, Option, None, Some, map, length, slice_get, slice_index_or, position, find, zip, flat_map, option_and_then, option_to_list}
+use Rattle.std.specs.Prelude.{ℕ, ℤ, Bool, nat_lt, List, [], ◌++◌, Option, None, Some, map, length, slice_get, position, find, zip, flat_map, option_and_then, option_to_list}
 use Rattle.std.specs.List.{range_with_len}
 use Rattle.trio_types.specs.declared.formula.Term.{Term}
 use Rattle.trio_types.specs.declared.formula.Term.TheOpen.{Term-F, SignedTerm-F}
@@ -14,7 +14,7 @@ use Rattle.trio_core.specs.Sets.{members}
 use Rattle.trio_core.specs.Three.{Value3, term_value3, part_value3, known_all, known_at}
 
 -- the members of the set of the cell of this number, in order; there are none where there is no such cell
-abbrev members_of : World → Option (Cell × ℕ) → List ℕ
+abbrev pub members_of : World → Option (Cell × ℕ) → List ℕ
 members_of world None = []
 members_of world (Some q) = members (cell_size world q.0) q.1
 

@@ -3,6 +3,7 @@
 
 mod decision;
 mod fork;
+pub mod laws;
 mod leaf;
 mod reads;
 mod rows;

@@ -1,6 +1,5 @@
 -- Induction over formulas, form by form.
 use Rattle.std.proofs.Common.{ℕ, List, [], ◌∷◌, map, sym, subst}
-use denote.Hole.Holds.{Such}
 use Rattle.trio_base.specs.declared.operators.Rel.{Rel}
 use Rattle.trio_base.specs.declared.operators.OneOp.{OneOp}
 use Rattle.trio_base.specs.declared.operators.FarOp.{FarOp}

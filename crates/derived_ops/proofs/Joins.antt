@@ -1,13 +1,9 @@
 -- The truth of many parts joined by halves.
 use Rattle.std.proofs.Common.{◌≡◌, ℕ, zero, suc, ◌+◌, ◌/◌, ℤ, Bool, true, false, ◌&&◌, ◌||◌, List, [], ◌∷◌, ◌++◌, length, take, drop, refl, sym, ap, ◌∙◌}
 use Rattle.std.specs.List.{list_all, list_any}
-use Rattle.std.specs.Ordering.{int_eq}
 use Rattle.std.proofs.lemmas.List.{take-append-drop}
 use Rattle.std.proofs.lemmas.List.Folds.{list_all-append}
-use Rattle.trio_base.specs.declared.operators.Rel.TheVariants as rel
-use Rattle.trio_types.specs.declared.formula.Term.TheVariants as term
 use Rattle.trio_types.specs.World.{World}
-use Rattle.trio_types.specs.Truth.{relates}
 use Rattle.trio_types.proofs.ValueAt.{value-Number}
 use Rattle.derived_ops.specs.Shape.{Shape, both, either}
 use Rattle.derived_ops.specs.declared.joint.Joint.TheVariants as joint

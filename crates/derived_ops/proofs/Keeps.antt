@@ -2,7 +2,6 @@
 use Rattle.std.proofs.Common.{◌≡◌, ℕ, ◌<◌, ℤ, pos, neg_ℤ, Bool, true, false, not, ◌&&◌, ◌||◌, nat_lt, List, [], ◌∷◌, ◌++◌, map, Option, None, Some, filter, length, refl, sym, ap, ◌∙◌}
 use Rattle.std.specs.List.{list_any, list_all}
 use Rattle.std.specs.Option.{option_map}
-use Rattle.std.proofs.lemmas.List.Folds.{list_all-map}
 use Rattle.trio_base.specs.declared.operators.Rel.{Rel}
 use Rattle.trio_base.specs.declared.operators.Rel.TheVariants as rel
 use Rattle.trio_base.specs.declared.operators.OneOp.{OneOp}
@@ -18,18 +17,16 @@ use Rattle.trio_types.specs.declared.formula.Formula.{Formula}
 use Rattle.trio_types.specs.declared.formula.Formula.TheVariants as formula
 use Rattle.trio_types.specs.World.{World, instants_of, values_in}
 use Rattle.trio_types.specs.Values.{value}
-use Rattle.trio_types.specs.Truth.{Truth, truth, is_value, relates, is_iff, after, before, ahead, is_not_negative, at_distance, one_truth, far_truth, pair_truth}
-use Rattle.trio_types.proofs.Lists.{list_any-map, all_is_not_any}
+use Rattle.trio_types.specs.Truth.{Truth, truth, is_value, relates, is_iff, ahead, is_not_negative, at_distance, one_truth, far_truth, pair_truth}
+use Rattle.trio_types.proofs.Lists.{all_is_not_any}
 use Rattle.trio_types.proofs.Operators.{all_pass}
 use Rattle.trio_types.proofs.TruthAt.{truth-Lone, truth-Compare, truth-Not, truth-And, truth-Or, truth-Implies, truth-Iff, truth-All, truth-Ex, truth-One, truth-Far, truth-Pair}
 use Rattle.trio_types.proofs.ValueAt.{value-Value}
 use Rattle.trio_core.proofs.TermCases.{Each}
 use Rattle.trio_core.specs.Core.{not_truth}
-use Rattle.derived_ops.specs.declared.joint.Joint.TheVariants as joint
 use Rattle.derived_ops.specs.declared.joint.Way.TheVariants as way
-use Rattle.derived_ops.specs.Shape.{Shape, atom, no, either, equal}
-use Rattle.derived_ops.specs.Rewriting.{Levels, Written, renamed, opposite, all_joined, range_of_domain, for_some, last, somewhere, dist_written, at_far, within, throughout, next, until, one_written, far_written, way_of, written}
-use Rattle.derived_ops.proofs.FormulaCases.{FormulaCases, every_formula}
+use Rattle.derived_ops.specs.Rewriting.{Levels, Written, renamed, opposite, range_of_domain, for_some, last, somewhere, at_far, next, until, one_written, far_written, way_of, written}
+use Rattle.derived_ops.proofs.FormulaCases.{every_formula}
 use Rattle.derived_ops.proofs.Told.{shape_truth}
 use Rattle.derived_ops.proofs.Renaming.{pick, Below, renamed_value}
 use Rattle.derived_ops.proofs.Joins.{all_hold, some_holds}

@@ -15,3 +15,7 @@ mod Placed
 mod TermsPlaced
 mod WrittenFits
 mod Making
+mod InAnyOrder
+mod NamesInAnyOrder
+mod Reordered
+mod GoalMoved

@@ -1,11 +1,10 @@
 -- The rewriting of a specification makes a core, and it stands for the specification.
-use Rattle.std.proofs.Common.{◌≡◌, ℕ, zero, suc, ◌+◌, ◌<◌, ◌≤◌, Bool, true, false, ◌&&◌, nat_lt, List, [], ◌∷◌, ◌++◌, length, map, take, get_or, slice_get, slice_index_or, Some, refl, sym, ap, subst, ◌∙◌, arith}
+use Rattle.std.proofs.Common.{◌≡◌, ℕ, zero, suc, ◌+◌, ◌<◌, ◌≤◌, Bool, true, ◌&&◌, nat_lt, List, [], ◌∷◌, ◌++◌, length, map, take, get_or, slice_get, slice_index_or, Some, refl, sym, ap, subst, ◌∙◌, arith}
 use Rattle.std.specs.List.{list_all, flat_map, enumerate_from}
 use Rattle.std.specs.Option.{option_map}
 use Rattle.std.proofs.lemmas.Bool.{and_parts, and_from, lt-ltb, false≢true}
 use Rattle.std.proofs.lemmas.List.{append_assoc, append-nil, length-append, take_more}
 use Rattle.std.proofs.lemmas.Option.{none-some, same_Some, slice_get-map}
-use Rattle.trio_base.specs.declared.limits.TheConstants.{GREATEST_BOUND}
 use Rattle.trio_types.specs.declared.spec.Which.TheVariants as which
 use Rattle.trio_types.specs.declared.spec.DomainKind.{DomainKind}
 use Rattle.trio_types.specs.declared.spec.DomainKind.TheVariants as kind
@@ -16,9 +15,8 @@ use Rattle.trio_types.specs.declared.spec.Spec.{Spec}
 use Rattle.trio_types.specs.World.{World}
 use Rattle.trio_types.specs.Parts.{Parts, world_of_parts, claims_of, declarations_of}
 use Rattle.trio_types.specs.Kinds.{is_right, item_uses, uses}
-use Rattle.trio_types.specs.Bounds.{greatest, greatest_bound}
+use Rattle.trio_types.specs.Bounds.{greatest_bound}
 use Rattle.trio_types.specs.Nest.{nest_of, item_nest}
-use Rattle.trio_types.specs.Truth.{truth}
 use Rattle.trio_types.specs.WellFormed.{has_bool, is_well_formed, instant_fits}
 use Rattle.trio_types.specs.Verdict.{parts_of, world_of}
 use Rattle.trio_types.proofs.Lists.{all_left, all_right, all_flat, get_left, get_right}
@@ -31,9 +29,8 @@ use Rattle.trio_core.specs.declared.nodes.Core.{Core}
 use Rattle.trio_core.specs.Core.{core_truth}
 use Rattle.trio_core.specs.CoreShape.{Ranges, same_ranges, ranges_of, node_fits, root_fits, is_core}
 use Rattle.trio_core.specs.Stands.{world_of_core, RootStandsFor, StandsFor}
-use Rattle.trio_core.proofs.TermCases.{Each}
 use Rattle.trio_core.proofs.Flat.{core_truth_kept}
-use Rattle.derived_ops.specs.Shape.{Shape, before_last, nodes_of}
+use Rattle.derived_ops.specs.Shape.{before_last, nodes_of}
 use Rattle.derived_ops.specs.declared.writer.Writer.{Writer}
 use Rattle.derived_ops.specs.Rewriting.{written}
 use Rattle.derived_ops.specs.Adding.{Adds}
@@ -89,7 +86,7 @@ pub step_roots : (w : World) (axioms : List Axiom) (i : ℕ) (a : Axiom) (old mi
 step_roots w axioms i a old mid node roots inside is nodes levels adds so_far =
     let xs = take i axioms in
     let place : node ≡ 0 + length (nodes_of_axioms w 0 xs) + before_last (shape_of w a.formula) =
-        omega (arith, adds.place, ap length nodes, ap (λ ls. before_last (written w a.formula 0 ls)) levels) in
+    omega (arith, adds.place, ap length nodes, ap (λ ls. before_last (written w a.formula 0 ls)) levels) in
     ap (λ rs. rs ++ record { node = node; at = a.at } ∷ []) so_far
     ∙ ap (λ (k : ℕ). let r : Root = record { node = k; at = a.at } in roots_of_axioms w 0 xs ++ r ∷ []) place
     ∙ sym (roots_more w 0 xs a) ∙ ap (λ a. roots_of_axioms w 0 (xs ++ a ∷ [])) is ∙ ap (roots_of_axioms w 0) (sym (take_more axioms i a inside))
@@ -126,7 +123,7 @@ axiom_fits p f k a at =
     let nests = map (λ (a : Axiom). (nest_of a.formula).plain) (claims_of p) in
     let claims_right = all_right is_right (flat_map (item_uses w) p.items) (flat_map (λ (a : Axiom). uses w a.formula []) (claims_of p)) f.kinds in
     let bound = greatest_above bounds k (greatest_bound w a.formula [])
-        (slice_get-map (λ (a : Axiom). greatest_bound w a.formula []) (claims_of p) k ∙ ap (option_map (λ (a : Axiom). greatest_bound w a.formula [])) there) in
+    (slice_get-map (λ (a : Axiom). greatest_bound w a.formula []) (claims_of p) k ∙ ap (option_map (λ (a : Axiom). greatest_bound w a.formula [])) there) in
     let nest_at = slice_get-map (λ (a : Axiom). (nest_of a.formula).plain) (claims_of p) k ∙ ap (option_map (λ (a : Axiom). (nest_of a.formula).plain)) there in
     let nest = greatest_above (map item_nest p.items ++ nests) (length (map item_nest p.items) + k) (nest_of a.formula).plain (get_right (map item_nest p.items) nests k ∙ nest_at) in
     shape_fits w (grounded p f) a.formula (all_flat is_right (λ (a : Axiom). uses w a.formula []) (claims_of p) claims_right k a there)
@@ -198,9 +195,9 @@ each_root w (x ∷ axioms) before n is zero root a rt ct =
     let front = before ++ nodes_of s n in
     let inside : n + before_last s < length front = omega (arith, is, length-append before (nodes_of s n), length-nodes_of s n) in
     let here : core_truth w (before ++ nodes_of s n) (n + before_last s) ≡ shape_truth w s =
-        ap (λ m. core_truth w (before ++ nodes_of s m) (m + before_last s)) is ∙ core_told w before s in
+    ap (λ m. core_truth w (before ++ nodes_of s m) (m + before_last s)) is ∙ core_told w before s in
     let whole : core_truth w (before ++ (nodes_of s n ++ rest)) (n + before_last s) ≡ shape_truth w s =
-        ap (λ ns. core_truth w ns (n + before_last s)) (sym (append_assoc before (nodes_of s n) rest)) ∙ core_truth_kept w front rest (n + before_last s) inside ∙ here in
+    ap (λ ns. core_truth w ns (n + before_last s)) (sym (append_assoc before (nodes_of s n) rest)) ∙ core_truth_kept w front rest (n + before_last s) inside ∙ here in
     let first : RootIs w (before ++ (nodes_of s n ++ rest)) r x = record { at = refl; told = whole } in
     let of_root : RootIs w (before ++ (nodes_of s n ++ rest)) root x = subst (λ root. RootIs w (before ++ (nodes_of s n ++ rest)) root x) (same_Some r root rt) first in
     subst (λ a. RootIs w (before ++ (nodes_of s n ++ rest)) root a) (same_Some x a ct) of_root

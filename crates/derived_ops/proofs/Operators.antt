@@ -1,9 +1,8 @@
 -- What is written of parts that keep truth keeps the truth of the operator on them.
-use Rattle.std.proofs.Common.{◌≡◌, ℕ, ◌+◌, ◌<◌, ◌≤◌, ℤ, pos, neg_ℤ, ◌+ℤ◌, ◌-ℤ◌, ◌≤ℤ◌, ◌<ℤ◌, Bool, true, false, not, ◌&&◌, ◌||◌, nat_lt, List, [], ◌∷◌, ◌++◌, Option, None, Some, filter, length, slice_get, slice_index_or, refl, sym, ap, ◌∙◌, arith, Decides}
-use Rattle.std.specs.Prelude.{int_lt, int_le}
+use Rattle.std.proofs.Common.{◌≡◌, ℕ, ◌+◌, ◌<◌, ℤ, pos, neg_ℤ, ◌+ℤ◌, ◌-ℤ◌, ◌≤ℤ◌, ◌<ℤ◌, Bool, true, false, not, ◌&&◌, nat_lt, List, [], ◌∷◌, ◌++◌, Option, None, Some, filter, length, slice_get, refl, sym, ap, ◌∙◌, arith, Decides}
 use Rattle.std.specs.List.{list_any, list_all}
 use Rattle.std.specs.Option.{option_map}
-use Rattle.std.proofs.lemmas.Bool.{false≢true, and_parts, and_from, not-true, ltb-true, lt-ltb}
+use Rattle.std.proofs.lemmas.Bool.{false≢true, and_parts, and_from, ltb-true, lt-ltb}
 use Rattle.std.proofs.lemmas.Int.{ints}
 use Rattle.std.proofs.lemmas.List.{length_push, get_or_push, get_or_append_left}
 use Rattle.trio_base.specs.declared.operators.Rel.{Rel}
@@ -17,21 +16,19 @@ use Rattle.trio_types.specs.declared.formula.Term.{Term}
 use Rattle.trio_types.specs.declared.formula.Term.TheVariants as term
 use Rattle.trio_types.specs.World.{World, integers, at_least_zero, instants_of, values_of, values_in}
 use Rattle.trio_types.specs.Values.{value}
-use Rattle.trio_types.specs.Truth.{Truth, relates, is_at_distance, at_distance, is_not_negative, is_ahead, is_behind, takes_now, takes_far}
+use Rattle.trio_types.specs.Truth.{Truth, relates, at_distance, is_not_negative, is_ahead, is_behind}
 use Rattle.trio_types.specs.Laws.{Ahead, Behind}
 use Rattle.trio_types.proofs.Integers.{Decides-int_lt, Decides-int_le}
 use Rattle.trio_types.proofs.Lists.{any_same, all_is_not_any}
 use Rattle.trio_types.proofs.ValueAt.{value-Number, value-Var}
-use Rattle.trio_types.proofs.Operators.{Tells, tells_ahead, tells_behind, guarded}
-use Rattle.trio_core.specs.Core.{numbers, not_truth, and_truth}
-use Rattle.trio_core.specs.CoreShape.{Range}
+use Rattle.trio_types.proofs.Operators.{Tells, tells_ahead, tells_behind}
+use Rattle.trio_core.specs.Core.{numbers, not_truth}
 use Rattle.derived_ops.specs.declared.joint.Way.{Way}
 use Rattle.derived_ops.specs.declared.joint.Way.TheVariants as way
-use Rattle.derived_ops.specs.Shape.{Shape}
 use Rattle.derived_ops.specs.Rewriting.{Levels, Written, renamed, opposite, range_of_kind, range_of_domain, for_some, last, towards, somewhere, dist_written, at_far, least_of, relation_of, within, throughout, next, up_to, until}
 use Rattle.derived_ops.proofs.Told.{shape_truth}
 use Rattle.derived_ops.proofs.Renaming.{pick, Below, below_more, below_new, pick_more, pick_new, moved, renamed_value, towards_value}
-use Rattle.derived_ops.proofs.Seeking.{some_number, there_at, at_there, any_inside, there_inside, seek, distance_to, Reaches, sought}
+use Rattle.derived_ops.proofs.Seeking.{there_at, at_there, there_inside, seek, distance_to, Reaches, sought}
 
 -- at each instant inside time what is written is true exactly where this is
 pub record KeepsTruth (w : World) (f : Written) (p : Truth) : Type 0 where
@@ -110,9 +107,9 @@ pub keeps_for_some : (w : World) (d : ℕ) (f : Written) (p : Truth) → KeepsTr
 keeps_for_some w d f p keeps = record {
   at = λ k ls e t i whole below inside.
       any_same (λ z. shape_truth w (f (k + 1) (ls ++ k ∷ [])) (e ++ z ∷ []) t i) (λ z. p (pick e ls ++ z ∷ []) t i)
-          (λ z. keeps.at (k + 1) (ls ++ k ∷ []) (e ++ z ∷ []) t i (omega (arith, length_push e z, whole)) (below_new k ls below) inside
-          ∙ ap (λ e. p e t i) (pick_new e z ls k whole below))
-          (numbers (range_of_domain w d).low (range_of_domain w d).high)
+      (λ z. keeps.at (k + 1) (ls ++ k ∷ []) (e ++ z ∷ []) t i (omega (arith, length_push e z, whole)) (below_new k ls below) inside
+      ∙ ap (λ e. p e t i) (pick_new e z ls k whole below))
+      (numbers (range_of_domain w d).low (range_of_domain w d).high)
       ∙ ap (list_any (λ z. p (pick e ls ++ z ∷ []) t i)) (numbers_of_domain w d);
 }
 
@@ -135,10 +132,10 @@ keeps_at_far w m f p x keeps = record {
   at = λ k ls e t i whole below inside.
       let v = value w x (pick e ls) t i in
       let first : relates rel.Le (value w (term.Number 0) e t i) (value w (renamed ls x) e t i) ≡ is_not_negative v =
-          ap (λ u. relates rel.Le u (value w (renamed ls x) e t i)) (value-Number w 0 e t i) ∙ ap (relates rel.Le (Some (pos 0))) (renamed_value w ls e t i x) ∙ no_less v in
+      ap (λ u. relates rel.Le u (value w (renamed ls x) e t i)) (value-Number w 0 e t i) ∙ ap (relates rel.Le (Some (pos 0))) (renamed_value w ls e t i x) ∙ no_less v in
       let second : list_any (shape_truth w (f k ls) e t) (at_distance w i (value w (towards m (renamed ls x)) e t i)) ≡ list_any (p (pick e ls) t) (at_distance w i (option_map (moved m) v)) =
-          ap (λ d. list_any (shape_truth w (f k ls) e t) (at_distance w i d)) (towards_value w m (renamed ls x) e t i ∙ ap (option_map (moved m)) (renamed_value w ls e t i x))
-          ∙ there_inside w i (option_map (moved m) v) (shape_truth w (f k ls) e t) (p (pick e ls) t) (λ j at. keeps.at k ls e t j whole below at) in
+      ap (λ d. list_any (shape_truth w (f k ls) e t) (at_distance w i d)) (towards_value w m (renamed ls x) e t i ∙ ap (option_map (moved m)) (renamed_value w ls e t i x))
+      ∙ there_inside w i (option_map (moved m) v) (shape_truth w (f k ls) e t) (p (pick e ls) t) (λ j at. keeps.at k ls e t j whole below at) in
       ap (λ b. b && list_any (shape_truth w (f k ls) e t) (at_distance w i (value w (towards m (renamed ls x)) e t i))) first
       ∙ ap (λ b. is_not_negative v && b) second;
 }
@@ -150,11 +147,11 @@ pub keeps_somewhere : (w : World) (low high : ℤ) (g : ℕ → ℕ → Bool) (f
 keeps_somewhere w low high g f p reaches keeps = record {
   at = λ k ls e t i whole below inside.
       any_same
-          (λ z. list_any (shape_truth w (f (k + 1) ls) (e ++ z ∷ []) t) (at_distance w i (value w (term.Var k) (e ++ z ∷ []) t i)))
-          (λ z. true && list_any (p (pick e ls) t) (at_distance w i (Some (moved way.Ahead z))))
-          (λ z. ap (λ d. list_any (shape_truth w (f (k + 1) ls) (e ++ z ∷ []) t) (at_distance w i d)) (new_value w e z t i k whole)
-          ∙ there_inside w i (Some z) (shape_truth w (f (k + 1) ls) (e ++ z ∷ []) t) (p (pick e ls) t) (under_new w f p keeps k ls e t whole below z))
-          (numbers low high)
+      (λ z. list_any (shape_truth w (f (k + 1) ls) (e ++ z ∷ []) t) (at_distance w i (value w (term.Var k) (e ++ z ∷ []) t i)))
+      (λ z. true && list_any (p (pick e ls) t) (at_distance w i (Some (moved way.Ahead z))))
+      (λ z. ap (λ d. list_any (shape_truth w (f (k + 1) ls) (e ++ z ∷ []) t) (at_distance w i d)) (new_value w e z t i k whole)
+      ∙ there_inside w i (Some z) (shape_truth w (f (k + 1) ls) (e ++ z ∷ []) t) (p (pick e ls) t) (under_new w f p keeps k ls e t whole below z))
+      (numbers low high)
       ∙ sought w way.Ahead i low high (λ z. true) (g i) (p (pick e ls) t) (reaches i inside);
 }
 
@@ -245,16 +242,16 @@ keeps_within w m s f p x keeps = record {
   at = λ k ls e t i whole below inside.
       let v = value w x (pick e ls) t i in
       any_same
-          (λ z. relates (relation_of s) (value w (term.Var k) (e ++ z ∷ []) t i) (value w (renamed ls x) (e ++ z ∷ []) t i)
-          && list_any (shape_truth w (f (k + 1) ls) (e ++ z ∷ []) t) (at_distance w i (value w (towards m (term.Var k)) (e ++ z ∷ []) t i)))
-          (λ z. relates (relation_of s) (Some z) v && list_any (p (pick e ls) t) (at_distance w i (Some (moved m z))))
-          (λ z. ap (λ b. b && list_any (shape_truth w (f (k + 1) ls) (e ++ z ∷ []) t) (at_distance w i (value w (towards m (term.Var k)) (e ++ z ∷ []) t i)))
-          (ap (λ u. relates (relation_of s) u (value w (renamed ls x) (e ++ z ∷ []) t i)) (new_value w e z t i k whole)
-          ∙ ap (relates (relation_of s) (Some z)) (term_value_below w x ls e z t i k whole below))
-          ∙ ap (λ b. relates (relation_of s) (Some z) v && b)
-          (ap (λ d. list_any (shape_truth w (f (k + 1) ls) (e ++ z ∷ []) t) (at_distance w i d)) (new_distance w m e z t i k whole)
-          ∙ there_inside w i (Some (moved m z)) (shape_truth w (f (k + 1) ls) (e ++ z ∷ []) t) (p (pick e ls) t) (under_new w f p keeps k ls e t whole below z)))
-          (numbers (least_of s) (last w))
+      (λ z. relates (relation_of s) (value w (term.Var k) (e ++ z ∷ []) t i) (value w (renamed ls x) (e ++ z ∷ []) t i)
+      && list_any (shape_truth w (f (k + 1) ls) (e ++ z ∷ []) t) (at_distance w i (value w (towards m (term.Var k)) (e ++ z ∷ []) t i)))
+      (λ z. relates (relation_of s) (Some z) v && list_any (p (pick e ls) t) (at_distance w i (Some (moved m z))))
+      (λ z. ap (λ b. b && list_any (shape_truth w (f (k + 1) ls) (e ++ z ∷ []) t) (at_distance w i (value w (towards m (term.Var k)) (e ++ z ∷ []) t i)))
+      (ap (λ u. relates (relation_of s) u (value w (renamed ls x) (e ++ z ∷ []) t i)) (new_value w e z t i k whole)
+      ∙ ap (relates (relation_of s) (Some z)) (term_value_below w x ls e z t i k whole below))
+      ∙ ap (λ b. relates (relation_of s) (Some z) v && b)
+      (ap (λ d. list_any (shape_truth w (f (k + 1) ls) (e ++ z ∷ []) t) (at_distance w i d)) (new_distance w m e z t i k whole)
+      ∙ there_inside w i (Some (moved m z)) (shape_truth w (f (k + 1) ls) (e ++ z ∷ []) t) (p (pick e ls) t) (under_new w f p keeps k ls e t whole below z)))
+      (numbers (least_of s) (last w))
       ∙ sought w m i (least_of s) (last w) (λ z. relates (relation_of s) (Some z) v) (is_in_range m s i v) (p (pick e ls) t) (reaches_range w m s i v inside);
 }
 
@@ -351,21 +348,27 @@ keeps_until w m f g p q keeps_f keeps_g = record {
   at = λ k ls e t i whole below now.
       let there = λ (z : ℤ). list_any (shape_truth w (g (k + 1) ls) (e ++ z ∷ []) t) (at_distance w i (value w (towards m (term.Var k)) (e ++ z ∷ []) t i)) in
       let there_is : (z : ℤ) → there z ≡ list_any (q (pick e ls) t) (at_distance w i (Some (moved m z))) =
-          λ z. ap (λ d. list_any (shape_truth w (g (k + 1) ls) (e ++ z ∷ []) t) (at_distance w i d)) (new_distance w m e z t i k whole)
-          ∙ there_inside w i (Some (moved m z)) (shape_truth w (g (k + 1) ls) (e ++ z ∷ []) t) (q (pick e ls) t) (under_new w g q keeps_g k ls e t whole below z) in
+      λ z. ap (λ d. list_any (shape_truth w (g (k + 1) ls) (e ++ z ∷ []) t) (at_distance w i d)) (new_distance w m e z t i k whole)
+      ∙ there_inside w i (Some (moved m z)) (shape_truth w (g (k + 1) ls) (e ++ z ∷ []) t) (q (pick e ls) t) (under_new w g q keeps_g k ls e t whole below z) in
       let between = λ (z : ℤ). shape_truth w (up_to w m f k ls) (e ++ z ∷ []) t i in
       seek w (pos 1) (last w) (λ z. there z && between z) (is_beyond m i)
-          (λ j. q (pick e ls) t j && list_all (p (pick e ls) t) (filter (is_amid m i j) (instants_of w)))
-          (λ z from to holds.
-          let parts = and_parts (there z) (between z) holds in
-          let j = there_at w i (moved m z) (q (pick e ls) t) (sym (there_is z) ∙ parts.0) in
-          (j.0, j.1, beyond_to m i j.0 z j.2 from,
-          and_from (q (pick e ls) t j.0) (list_all (p (pick e ls) t) (filter (is_amid m i j.0) (instants_of w))) j.3
-          (sym (keeps_up_to w m f p keeps_f k ls e t i whole below now z j.0 j.2) ∙ parts.1)))
-          (λ j inside beyond holds.
-          let parts = and_parts (q (pick e ls) t j) (list_all (p (pick e ls) t) (filter (is_amid m i j) (instants_of w))) holds in
-          let z = distance_to m i j in
-          (z.0, beyond_from m i j z.0 z.1 beyond, not_beyond w m i j z.0 now inside z.1,
-          and_from (there z.0) (between z.0) (there_is z.0 ∙ at_there w i (moved m z.0) (q (pick e ls) t) j inside z.1 parts.0)
-          (keeps_up_to w m f p keeps_f k ls e t i whole below now z.0 j z.1 ∙ parts.1)));
+      (λ j. q (pick e ls) t j && list_all (p (pick e ls) t) (filter (is_amid m i j) (instants_of w)))
+      (λ z from to holds.
+      let parts = and_parts (there z) (between z) holds in
+      let j = there_at w i (moved m z) (q (pick e ls) t) (sym (there_is z) ∙ parts.0) in (
+        j.0,
+        j.1,
+        beyond_to m i j.0 z j.2 from,
+        and_from (q (pick e ls) t j.0) (list_all (p (pick e ls) t) (filter (is_amid m i j.0) (instants_of w))) j.3
+            (sym (keeps_up_to w m f p keeps_f k ls e t i whole below now z j.0 j.2) ∙ parts.1),
+      ))
+      (λ j inside beyond holds.
+      let parts = and_parts (q (pick e ls) t j) (list_all (p (pick e ls) t) (filter (is_amid m i j) (instants_of w))) holds in
+      let z = distance_to m i j in (
+        z.0,
+        beyond_from m i j z.0 z.1 beyond,
+        not_beyond w m i j z.0 now inside z.1,
+        and_from (there z.0) (between z.0) (there_is z.0 ∙ at_there w i (moved m z.0) (q (pick e ls) t) j inside z.1 parts.0)
+            (keeps_up_to w m f p keeps_f k ls e t i whole below now z.0 j z.1 ∙ parts.1),
+      ));
 }

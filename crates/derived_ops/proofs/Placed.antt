@@ -1,5 +1,5 @@
 -- Every node of a shape that fits is fit for a core.
-use Rattle.std.proofs.Common.{◌≡◌, ℕ, zero, suc, ◌+◌, ◌<◌, ◌≤◌, ℤ, Bool, true, false, ◌&&◌, nat_lt, nat_le, List, [], ◌∷◌, ◌++◌, length, slice_get, slice_index_or, Some, refl, sym, ap, ◌∙◌, arith}
+use Rattle.std.proofs.Common.{◌≡◌, ℕ, ◌+◌, ◌<◌, ◌≤◌, Bool, true, false, ◌&&◌, nat_lt, nat_le, List, [], ◌∷◌, ◌++◌, length, slice_get, slice_index_or, Some, refl, sym, ap, ◌∙◌, arith}
 use Rattle.std.specs.List.{list_all, enumerate_from}
 use Rattle.std.specs.Ordering.{int_eq}
 use Rattle.std.proofs.lemmas.Bool.{and_from, lt-ltb, le-leb}
@@ -7,7 +7,6 @@ use Rattle.std.proofs.lemmas.Bool.Decides.{Decides-int_eq}
 use Rattle.std.proofs.lemmas.List.{length-append, length_push}
 use Rattle.std.proofs.lemmas.List.Folds.{list_all-append}
 use Rattle.std.proofs.lemmas.Option.{get_or_from_slice_get}
-use Rattle.trio_types.specs.declared.formula.Term.{Term}
 use Rattle.trio_types.specs.World.{World}
 use Rattle.trio_types.specs.WellFormed.{is_written}
 use Rattle.trio_types.proofs.Lists.{get_left, get_right}
@@ -87,7 +86,7 @@ last_placed rounds (equal s u) n rs placed =
     let five = rs ∷ rs ∷ rs ∷ rs ∷ rs ∷ [] in
     let m = n + (before_last s + 1 + before_last u + 1) in
     let behind = placed_right rounds n m (rounds_of s rs ++ rounds_of u rs) five
-        (omega (arith, length-append (rounds_of s rs) (rounds_of u rs), length-rounds_of s rs, length-rounds_of u rs)) placed in
+    (omega (arith, length-append (rounds_of s rs) (rounds_of u rs), length-rounds_of s rs, length-rounds_of u rs)) placed in
     let same : n + (before_last s + 1 + before_last u + 5) ≡ m + 4 = omega arith in
     get_or_from_slice_get rounds (n + (before_last s + 1 + before_last u + 5)) rs [] (ap (slice_get rounds) same ∙ behind.at 4 rs refl)
 
@@ -178,7 +177,7 @@ behind_two w rounds s u x n rs parts within placed content few first second =
     let b = m + before_last u in
     let front = placed_left rounds n (rounds_of s rs ++ rounds_of u rs) (rs ∷ []) placed in
     let own = first_placed rounds (b + 1) rs [] (placed_right rounds n (b + 1) (rounds_of s rs ++ rounds_of u rs) (rs ∷ [])
-        (omega (arith, length-append (rounds_of s rs) (rounds_of u rs), length-rounds_of s rs, length-rounds_of u rs)) placed) in
+    (omega (arith, length-append (rounds_of s rs) (rounds_of u rs), length-rounds_of s rs, length-rounds_of u rs)) placed) in
     let left = last_placed rounds s n rs (placed_left rounds n (rounds_of s rs) (rounds_of u rs) front) in
     let right = last_placed rounds u m rs (placed_right rounds n m (rounds_of s rs) (rounds_of u rs) (omega (arith, length-rounds_of s rs)) front) in
     both_fit w rounds n (b + 1) (nodes_of s n ++ nodes_of u m) (x ∷ []) (omega (arith, length-append (nodes_of s n) (nodes_of u m), length-nodes_of s n, length-nodes_of u m))
@@ -198,9 +197,9 @@ five_fit w rounds a b rs less few left right placed =
     let f2 = made_fit w rounds (b + 2) (node.Not a) rs at2 (one_part rounds (node.Not a) a (b + 2) rs refl (λ rs. refl) (omega arith) at2 left) refl few in
     let f3 = made_fit w rounds (b + 3) (node.Not b) rs at3 (one_part rounds (node.Not b) b (b + 3) rs refl (λ rs. refl) (omega arith) at3 right) refl few in
     let f4 = made_fit w rounds (b + 4) (node.And (b + 2) (b + 3)) rs at4
-        (two_parts rounds (node.And (b + 2) (b + 3)) (b + 2) (b + 3) (b + 4) rs refl (λ rs. refl) (omega arith) (omega arith) at4 at2 at3) refl few in
+    (two_parts rounds (node.And (b + 2) (b + 3)) (b + 2) (b + 3) (b + 4) rs refl (λ rs. refl) (omega arith) (omega arith) at4 at2 at3) refl few in
     let f5 = made_fit w rounds (b + 5) (node.Or (b + 1) (b + 4)) rs at5
-        (two_parts rounds (node.Or (b + 1) (b + 4)) (b + 1) (b + 4) (b + 5) rs refl (λ rs. refl) (omega arith) (omega arith) at5 at1 at4) refl few in
+    (two_parts rounds (node.Or (b + 1) (b + 4)) (b + 1) (b + 4) (b + 5) rs refl (λ rs. refl) (omega arith) (omega arith) at5 at1 at4) refl few in
     more_fit w rounds (b + 1) (node.And a b) (node.Not a ∷ node.Not b ∷ node.And (b + 2) (b + 3) ∷ node.Or (b + 1) (b + 4) ∷ []) f1
     (from (b + 2) (b + 1 + 1) (omega arith) (node.Not a ∷ node.Not b ∷ node.And (b + 2) (b + 3) ∷ node.Or (b + 1) (b + 4) ∷ [])
     (more_fit w rounds (b + 2) (node.Not a) (node.Not b ∷ node.And (b + 2) (b + 3) ∷ node.Or (b + 1) (b + 4) ∷ []) f2
@@ -253,7 +252,7 @@ all_fit w rounds (equal s u) n rs placed fits =
     let left = placed_left rounds n (rounds_of s rs) (rounds_of u rs) front in
     let right = placed_right rounds n m (rounds_of s rs) (rounds_of u rs) (omega (arith, length-rounds_of s rs)) front in
     let behind = placed_right rounds n (b + 1) (rounds_of s rs ++ rounds_of u rs) five
-        (omega (arith, length-append (rounds_of s rs) (rounds_of u rs), length-rounds_of s rs, length-rounds_of u rs)) placed in
+    (omega (arith, length-append (rounds_of s rs) (rounds_of u rs), length-rounds_of s rs, length-rounds_of u rs)) placed in
     both_fit w rounds n (b + 1) (nodes_of s n ++ nodes_of u m) (equal_nodes a b) (omega (arith, length-append (nodes_of s n) (nodes_of u m), length-nodes_of s n, length-nodes_of u m))
     (both_fit w rounds n m (nodes_of s n) (nodes_of u m) (omega (arith, length-nodes_of s n)) (all_fit w rounds s n rs left fits.0) (all_fit w rounds u m rs right fits.1))
     (five_fit w rounds a b rs (omega arith) (few_ranges w s rs fits.0) (last_placed rounds s n rs left) (last_placed rounds u m rs right) behind)

@@ -13,13 +13,13 @@ use Rattle.trio_types.specs.declared.formula.Term.TheViews.{roll-Term}
 use Rattle.trio_types.specs.World.{World}
 use Rattle.trio_types.specs.Cells.{number_at}
 use Rattle.trio_types.specs.Values.{value, read_cell, sum_of, plus}
-use Rattle.trio_types.proofs.Lists.{map-map, map_same}
+use Rattle.trio_types.proofs.Lists.{map_same}
 use Rattle.trio_types.proofs.ValueAt.{signed_value, value-Number, value-Value, value-Var, value-Read, value-Sum, value-Times}
-use Rattle.trio_core.proofs.TermCases.{Each, term_of, TermCases, every_term}
+use Rattle.trio_core.proofs.TermCases.{Each, term_of, every_term}
 use Rattle.derived_ops.specs.declared.joint.Way.{Way}
 use Rattle.derived_ops.specs.declared.joint.Way.TheVariants as way
 use Rattle.derived_ops.specs.Terms.{part_of}
-use Rattle.derived_ops.specs.Rewriting.{Levels, variable_at, term_renamed, part_renamed, renamed, minus, towards}
+use Rattle.derived_ops.specs.Rewriting.{Levels, variable_at, term_renamed, part_renamed, renamed, towards}
 
 -- the terms, form by form
 abbrev signed_renamed : Levels → SignedTerm → SignedTerm

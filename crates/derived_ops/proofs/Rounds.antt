@@ -1,5 +1,5 @@
 -- The ranges round each node of a shape.
-use Rattle.std.proofs.Common.{◌≡◌, ℕ, zero, suc, ◌+◌, ◌<◌, ℤ, Bool, true, false, ◌||◌, ◌==◌, if◌then◌else◌, List, [], ◌∷◌, ◌++◌, length, refl, sym, ap, ◌∙◌, arith}
+use Rattle.std.proofs.Common.{◌≡◌, ℕ, ◌+◌, ◌<◌, Bool, true, false, ◌||◌, ◌==◌, List, [], ◌∷◌, ◌++◌, length, refl, sym, ap, ◌∙◌, arith}
 use Rattle.std.specs.List.{list_any}
 use Rattle.std.proofs.lemmas.Bool.{cond-true, cond-false, eq-eqb, false_from_ne_true, eqb-true, or_left, or_right, or_parts}
 use Rattle.std.proofs.lemmas.List.{append_assoc, length-append, length_push}
@@ -177,15 +177,15 @@ equal_rounds : (a b : ℕ) (rs : Ranges) (at : ℕ) (ms : List Node) (qs : List 
 equal_rounds a b rs at ms qs less is behind own =
     let five = next_round (b + 5) at (node.Or (b + 1) (b + 4)) ms rs qs is behind own in
     let four = next_round (b + 4) (b + 4) (node.And (b + 2) (b + 3)) (node.Or (b + 1) (b + 4) ∷ ms) rs (rs ∷ qs) refl
-        (ap (λ n. ranges_from n (node.Or (b + 1) (b + 4) ∷ ms)) (more 4 5 refl) ∙ five)
-        (take_one (b + 4) (node.Or (b + 1) (b + 4)) ms rs qs (second_part (b + 4) (b + 1) (b + 4) refl)) in
+    (ap (λ n. ranges_from n (node.Or (b + 1) (b + 4) ∷ ms)) (more 4 5 refl) ∙ five)
+    (take_one (b + 4) (node.Or (b + 1) (b + 4)) ms rs qs (second_part (b + 4) (b + 1) (b + 4) refl)) in
     let three = next_round (b + 3) (b + 3) (node.Not b) (node.And (b + 2) (b + 3) ∷ node.Or (b + 1) (b + 4) ∷ ms) rs (rs ∷ rs ∷ qs) refl
-        (ap (λ n. ranges_from n (node.And (b + 2) (b + 3) ∷ node.Or (b + 1) (b + 4) ∷ ms)) (more 3 4 refl) ∙ four)
-        (take_one (b + 3) (node.And (b + 2) (b + 3)) (node.Or (b + 1) (b + 4) ∷ ms) rs (rs ∷ qs) (second_part (b + 3) (b + 2) (b + 3) refl)) in
+    (ap (λ n. ranges_from n (node.And (b + 2) (b + 3) ∷ node.Or (b + 1) (b + 4) ∷ ms)) (more 3 4 refl) ∙ four)
+    (take_one (b + 3) (node.And (b + 2) (b + 3)) (node.Or (b + 1) (b + 4) ∷ ms) rs (rs ∷ qs) (second_part (b + 3) (b + 2) (b + 3) refl)) in
     let two = next_round (b + 2) (b + 2) (node.Not a) (node.Not b ∷ node.And (b + 2) (b + 3) ∷ node.Or (b + 1) (b + 4) ∷ ms) rs (rs ∷ rs ∷ rs ∷ qs) refl
-        (ap (λ n. ranges_from n (node.Not b ∷ node.And (b + 2) (b + 3) ∷ node.Or (b + 1) (b + 4) ∷ ms)) (more 2 3 refl) ∙ three)
-        (skip_one (b + 2) (node.Not b) (node.And (b + 2) (b + 3) ∷ node.Or (b + 1) (b + 4) ∷ ms) rs (rs ∷ rs ∷ qs) (not_part (b + 2) b (λ e. omega (arith, e)))
-        ∙ take_one (b + 2) (node.And (b + 2) (b + 3)) (node.Or (b + 1) (b + 4) ∷ ms) rs (rs ∷ qs) (first_part (b + 2) (b + 2) (b + 3) refl)) in
+    (ap (λ n. ranges_from n (node.Not b ∷ node.And (b + 2) (b + 3) ∷ node.Or (b + 1) (b + 4) ∷ ms)) (more 2 3 refl) ∙ three)
+    (skip_one (b + 2) (node.Not b) (node.And (b + 2) (b + 3) ∷ node.Or (b + 1) (b + 4) ∷ ms) rs (rs ∷ rs ∷ qs) (not_part (b + 2) b (λ e. omega (arith, e)))
+    ∙ take_one (b + 2) (node.And (b + 2) (b + 3)) (node.Or (b + 1) (b + 4) ∷ ms) rs (rs ∷ qs) (first_part (b + 2) (b + 2) (b + 3) refl)) in
     next_round (b + 1) (b + 1) (node.And a b) (node.Not a ∷ node.Not b ∷ node.And (b + 2) (b + 3) ∷ node.Or (b + 1) (b + 4) ∷ ms) rs (rs ∷ rs ∷ rs ∷ rs ∷ qs) refl
     (ap (λ n. ranges_from n (node.Not a ∷ node.Not b ∷ node.And (b + 2) (b + 3) ∷ node.Or (b + 1) (b + 4) ∷ ms)) (more 1 2 refl) ∙ two)
     (skip_one (b + 1) (node.Not a) (node.Not b ∷ node.And (b + 2) (b + 3) ∷ node.Or (b + 1) (b + 4) ∷ ms) rs (rs ∷ rs ∷ rs ∷ qs) (not_part (b + 1) a (λ e. omega (arith, e, less)))

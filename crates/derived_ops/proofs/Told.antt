@@ -1,5 +1,5 @@
 -- The truth of a shape is that of its last node.
-use Rattle.std.proofs.Common.{◌≡◌, ℕ, ◌+◌, ◌<◌, not, ◌&&◌, ◌||◌, List, [], ◌∷◌, ◌++◌, length, refl, sym, ap, ◌∙◌, arith}
+use Rattle.std.proofs.Common.{◌≡◌, ℕ, ◌+◌, ◌<◌, List, [], ◌∷◌, ◌++◌, length, refl, ap, ◌∙◌, arith}
 use Rattle.std.proofs.lemmas.List.{length-append, length_push, get_or_push, get_or_append_left}
 use Rattle.trio_types.specs.World.{World}
 use Rattle.trio_types.specs.Truth.{Truth}
@@ -67,20 +67,20 @@ equal_told w ps a b p q a_in whole a_is b_is =
     let b_one = get_or_append_left ps (and_truth (part_truth ps a) (part_truth ps b) ∷ []) never b (omega (arith, whole)) ∙ b_is in
     let b_two = get_or_append_left one (not_truth (part_truth one a) ∷ []) never b (omega (arith, length_one)) ∙ b_one in
     let first_three : part_truth three (b + 1) ≡ and_truth p q =
-        get_or_append_left two (not_truth (part_truth two b) ∷ []) never (b + 1) (omega (arith, length_two))
-        ∙ get_or_append_left one (not_truth (part_truth one a) ∷ []) never (b + 1) (omega (arith, length_one))
-        ∙ get_or_push ps (and_truth (part_truth ps a) (part_truth ps b)) never (b + 1) whole
-        ∙ ap (λ x. and_truth x (part_truth ps b)) a_is ∙ ap (and_truth p) b_is in
+    get_or_append_left two (not_truth (part_truth two b) ∷ []) never (b + 1) (omega (arith, length_two))
+    ∙ get_or_append_left one (not_truth (part_truth one a) ∷ []) never (b + 1) (omega (arith, length_one))
+    ∙ get_or_push ps (and_truth (part_truth ps a) (part_truth ps b)) never (b + 1) whole
+    ∙ ap (λ x. and_truth x (part_truth ps b)) a_is ∙ ap (and_truth p) b_is in
     let no_a : part_truth three (b + 2) ≡ not_truth p =
-        get_or_append_left two (not_truth (part_truth two b) ∷ []) never (b + 2) (omega (arith, length_two))
-        ∙ get_or_push one (not_truth (part_truth one a)) never (b + 2) length_one ∙ ap not_truth a_one in
+    get_or_append_left two (not_truth (part_truth two b) ∷ []) never (b + 2) (omega (arith, length_two))
+    ∙ get_or_push one (not_truth (part_truth one a)) never (b + 2) length_one ∙ ap not_truth a_one in
     let no_b : part_truth three (b + 3) ≡ not_truth q =
-        get_or_push two (not_truth (part_truth two b)) never (b + 3) length_two ∙ ap not_truth b_two in
+    get_or_push two (not_truth (part_truth two b)) never (b + 3) length_two ∙ ap not_truth b_two in
     let neither : part_truth four (b + 4) ≡ and_truth (not_truth p) (not_truth q) =
-        get_or_push three (and_truth (part_truth three (b + 2)) (part_truth three (b + 3))) never (b + 4) length_three
-        ∙ ap (λ x. and_truth x (part_truth three (b + 3))) no_a ∙ ap (and_truth (not_truth p)) no_b in
+    get_or_push three (and_truth (part_truth three (b + 2)) (part_truth three (b + 3))) never (b + 4) length_three
+    ∙ ap (λ x. and_truth x (part_truth three (b + 3))) no_a ∙ ap (and_truth (not_truth p)) no_b in
     let first_four : part_truth four (b + 1) ≡ and_truth p q =
-        get_or_append_left three (and_truth (part_truth three (b + 2)) (part_truth three (b + 3)) ∷ []) never (b + 1) (omega (arith, length_three)) ∙ first_three in
+    get_or_append_left three (and_truth (part_truth three (b + 2)) (part_truth three (b + 3)) ∷ []) never (b + 1) (omega (arith, length_three)) ∙ first_three in
     get_or_push four (or_truth (part_truth four (b + 1)) (part_truth four (b + 4))) never (b + 5) length_four
     ∙ ap (λ x. or_truth x (part_truth four (b + 4))) first_four ∙ ap (or_truth (and_truth p q)) neither
 

@@ -1,5 +1,5 @@
 -- Nodes that are appended behind those of parts.
-use Rattle.std.proofs.Common.{◌≡◌, ℕ, zero, suc, ◌+◌, ◌-◌, ℤ, List, [], ◌∷◌, ◌++◌, length, take, refl, sym, ap, ◌∙◌, arith, subst}
+use Rattle.std.proofs.Common.{◌≡◌, ℕ, ◌+◌, ◌-◌, ℤ, List, [], ◌∷◌, ◌++◌, length, take, refl, sym, ap, ◌∙◌, arith, subst}
 use Rattle.std.proofs.lemmas.List.{append_assoc, length-append, length_push}
 use Rattle.std.proofs.Math.Seq.{take-append_seam}
 use Rattle.trio_base.specs.declared.operators.Rel.{Rel}
@@ -17,7 +17,7 @@ use Rattle.derived_ops.specs.declared.writer.Writer.{Writer}
 use Rattle.derived_ops.specs.Shape.{Shape, atom, no, both, either, exists, dist, equal, before_last, equal_nodes, nodes_of}
 use Rattle.derived_ops.specs.Rewriting.{Levels, Written, of_two, one_written, written}
 use Rattle.derived_ops.specs.Distances.{lowest, highest}
-use Rattle.derived_ops.specs.Adding.{Wrote, Adds, node_of_two, negated, many_opposite, nots_of}
+use Rattle.derived_ops.specs.Adding.{Wrote, Adds, node_of_two, negated, many_opposite, negations_of}
 use Rattle.derived_ops.proofs.Told.{length-nodes_of}
 
 -- the same shape in other words
@@ -46,7 +46,7 @@ behind_one : (s u : Shape) (n : ℕ → Node) (old mid new : Writer) (a at : ℕ
     before_last u ≡ before_last s + 1 → Adds s old mid a → Wrote (n a) mid new at → Adds u old new at
 behind_one s u n old mid new a at more last adds wrote =
     let whole : length mid.nodes.items ≡ length old.nodes.items + before_last s + 1 =
-        omega (arith, ap length adds.nodes, length-append old.nodes.items (nodes_of s (length old.nodes.items)), length-nodes_of s (length old.nodes.items)) in
+    omega (arith, ap length adds.nodes, length-append old.nodes.items (nodes_of s (length old.nodes.items)), length-nodes_of s (length old.nodes.items)) in
     record {
       nodes = wrote.nodes ∙ ap (λ ns. ns ++ n a ∷ []) adds.nodes ∙ append_assoc old.nodes.items (nodes_of s (length old.nodes.items)) (n a ∷ [])
           ∙ ap (λ b. old.nodes.items ++ (nodes_of s (length old.nodes.items) ++ n b ∷ [])) adds.place ∙ ap (λ ns. old.nodes.items ++ ns) (sym more);
@@ -79,7 +79,7 @@ two_added s u old mid last a b first second =
     let n = length old.nodes.items in
     let whole : length mid.nodes.items ≡ n + before_last s + 1 = omega (arith, ap length first.nodes, length-append old.nodes.items (nodes_of s n), length-nodes_of s n) in
     let nodes = second.nodes ∙ ap (λ m. mid.nodes.items ++ nodes_of u m) whole ∙ ap (λ ns. ns ++ nodes_of u (n + before_last s + 1)) first.nodes
-        ∙ append_assoc old.nodes.items (nodes_of s n) (nodes_of u (n + before_last s + 1)) in
+    ∙ append_assoc old.nodes.items (nodes_of s n) (nodes_of u (n + before_last s + 1)) in
     record {
       nodes = nodes;
       left = first.place;
@@ -138,8 +138,8 @@ add_equal s u old mid last w1 w2 w3 w4 new a b c d e g at first second one two t
     let e_is : e ≡ b + 3 = omega (arith, three.place, t.whole, t.right, l2) in
     let g_is : g ≡ b + 4 = omega (arith, four.place, t.whole, t.right, l3) in
     let all : new.nodes.items ≡ last.nodes.items ++ (node.And a b ∷ node.Not a ∷ node.Not b ∷ node.And d e ∷ node.Or c g ∷ []) =
-        five.nodes ∙ ap (λ ns. ns ++ node.Or c g ∷ []) (four.nodes ∙ ap (λ ns. ns ++ node.And d e ∷ []) (three.nodes ∙ ap (λ ns. ns ++ node.Not b ∷ []) (two.nodes ∙ ap (λ ns. ns ++ node.Not a ∷ []) one.nodes)))
-        ∙ five_behind last.nodes.items (node.And a b) (node.Not a) (node.Not b) (node.And d e) (node.Or c g) in
+    five.nodes ∙ ap (λ ns. ns ++ node.Or c g ∷ []) (four.nodes ∙ ap (λ ns. ns ++ node.And d e ∷ []) (three.nodes ∙ ap (λ ns. ns ++ node.Not b ∷ []) (two.nodes ∙ ap (λ ns. ns ++ node.Not a ∷ []) one.nodes)))
+    ∙ five_behind last.nodes.items (node.And a b) (node.Not a) (node.Not b) (node.And d e) (node.Or c g) in
     record {
       nodes = all ∙ ap (λ c. last.nodes.items ++ (node.And a b ∷ node.Not a ∷ node.Not b ∷ node.And d e ∷ node.Or c g ∷ [])) c_is
           ∙ ap (λ d. last.nodes.items ++ (node.And a b ∷ node.Not a ∷ node.Not b ∷ node.And d e ∷ node.Or (b + 1) g ∷ [])) d_is
@@ -159,7 +159,7 @@ add_equal s u old mid last w1 w2 w3 w4 new a b c d e g at first second one two t
 
 -- operators on one formula
 pub one_is : (w : World) (o : OneOp) (f : Written) (k : ℕ) (ls : Levels) →
-    negated (nots_of o) (exists (lowest w o) (highest w o) (dist (many_opposite (nots_of o) f (k + 1) ls) (term.Var k))) ≡ one_written w o f k ls
+    negated (negations_of o) (exists (lowest w o) (highest w o) (dist (many_opposite (negations_of o) f (k + 1) ls) (term.Var k))) ≡ one_written w o f k ls
 one_is w one.Alw f k ls = refl
 one_is w one.AlwF f k ls = refl
 one_is w one.AlwP f k ls = refl

@@ -1,5 +1,5 @@
 -- What each formula becomes, form by form.
-use Rattle.std.proofs.Common.{◌≡◌, ℕ, ◌++◌, List, [], ◌∷◌, map, ap, sym, ◌∙◌}
+use Rattle.std.proofs.Common.{◌≡◌, ℕ, List, map, ap, sym, ◌∙◌}
 use Rattle.trio_base.specs.declared.operators.Rel.{Rel}
 use Rattle.trio_base.specs.declared.operators.Rel.TheVariants as rel
 use Rattle.trio_base.specs.declared.operators.OneOp.{OneOp}
@@ -15,7 +15,7 @@ use Rattle.trio_types.specs.declared.formula.Formula.TheFolds.{fold-roll-Formula
 use Rattle.trio_types.specs.declared.formula.Formula.TheViews.{roll-Formula}
 use Rattle.trio_types.specs.World.{World}
 use Rattle.trio_types.proofs.Lists.{map-map}
-use Rattle.derived_ops.specs.Shape.{Shape, atom, no, either, equal}
+use Rattle.derived_ops.specs.Shape.{atom, no, either, equal}
 use Rattle.derived_ops.specs.declared.joint.Joint.TheVariants as joint
 use Rattle.derived_ops.specs.Rewriting.{Levels, Written, renamed, opposite, all_joined, range_of_domain, for_some, one_written, far_written, way_of, until, formula_written, written}
 

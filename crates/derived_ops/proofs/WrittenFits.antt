@@ -1,11 +1,9 @@
 -- What a formula becomes fits: its terms, its ranges, and how many ranges stand round.
-use Rattle.std.proofs.Common.{◌≡◌, ℕ, zero, suc, ◌+◌, ◌-◌, ◌*◌, ◌/◌, ◌<◌, ◌≤◌, max, ℤ, pos, negsuc, neg_ℤ, ◌-ℤ◌, ◌≤ℤ◌, nat_abs, Bool, true, false, not, ◌&&◌, nat_lt, nat_le, List, [], ◌∷◌, ◌++◌, map, length, take, drop, slice_get, Option, None, Some, refl, sym, ap, ◌∙◌, arith}
+use Rattle.std.proofs.Common.{◌≡◌, ℕ, zero, suc, ◌+◌, ◌*◌, ◌/◌, ◌<◌, ◌≤◌, max, ℤ, pos, negsuc, neg_ℤ, ◌-ℤ◌, ◌≤ℤ◌, Bool, true, false, nat_lt, nat_le, List, [], ◌∷◌, ◌++◌, map, length, take, drop, slice_get, Some, refl, sym, ap, ◌∙◌, arith}
 use Rattle.std.specs.Prelude.{int_le}
 use Rattle.std.specs.List.{list_all, flat_map}
-use Rattle.std.specs.Option.{option_map}
 use Rattle.std.proofs.lemmas.Bool.{and_parts, and_from, false≢true, leb-true}
 use Rattle.std.proofs.lemmas.Int.{ints}
-use Rattle.std.proofs.lemmas.List.{length_push}
 use Rattle.std.proofs.lemmas.Option.{none-some}
 use Rattle.trio_base.specs.declared.limits.TheConstants.{GREATEST_BOUND, MOST_VALUES}
 use Rattle.trio_base.specs.declared.operators.Rel.{Rel}
@@ -24,10 +22,10 @@ use Rattle.trio_types.specs.declared.formula.Term.{Term}
 use Rattle.trio_types.specs.declared.formula.Term.TheVariants as term
 use Rattle.trio_types.specs.declared.formula.Formula.{Formula}
 use Rattle.trio_types.specs.declared.formula.Formula.TheVariants as formula
-use Rattle.trio_types.specs.World.{World, integers, values_of, size_of}
+use Rattle.trio_types.specs.World.{World, integers, values_of}
 use Rattle.trio_types.specs.Kinds.{is_right, has_kind, kind_in, kind_of_constant, term_uses, uses}
 use Rattle.trio_types.specs.Bounds.{Bound, bounded, greatest, domain_bound, bound_of, greatest_bound}
-use Rattle.trio_types.specs.Nest.{FormulaNest, nest_of, nest_of_term}
+use Rattle.trio_types.specs.Nest.{FormulaNest, nest_of}
 use Rattle.trio_types.specs.WellFormed.{is_written, values_fit}
 use Rattle.trio_types.proofs.Integers.{Decides-int_le}
 use Rattle.trio_types.proofs.Lists.{all_left, all_right, get_left, get_right}
@@ -43,9 +41,9 @@ use Rattle.derived_ops.specs.declared.joint.Joint.{Joint}
 use Rattle.derived_ops.specs.declared.joint.Joint.TheVariants as joint
 use Rattle.derived_ops.specs.declared.joint.Way.{Way}
 use Rattle.derived_ops.specs.declared.joint.Way.TheVariants as way
-use Rattle.derived_ops.specs.Shape.{Shape, atom, no, both, either, exists, dist, equal}
-use Rattle.derived_ops.specs.Rewriting.{Levels, Written, renamed, opposite, joined, of_none, of_two, all_joined, range_of_kind, range_of_domain, for_some, last, towards, somewhere, one_written, dist_written, at_far, least_of, relation_of, within, throughout, next, far_written, up_to, until, way_of, written}
-use Rattle.derived_ops.proofs.FormulaCases.{FormulaCases, every_formula}
+use Rattle.derived_ops.specs.Shape.{Shape, atom, no, either, equal}
+use Rattle.derived_ops.specs.Rewriting.{Levels, Written, renamed, opposite, joined, of_none, of_two, all_joined, range_of_kind, range_of_domain, for_some, last, somewhere, one_written, dist_written, at_far, least_of, within, throughout, next, far_written, until, way_of, written}
+use Rattle.derived_ops.proofs.FormulaCases.{every_formula}
 use Rattle.derived_ops.proofs.WrittenAt.{written-Lone, written-Compare, written-Not, written-And, written-Or, written-Implies, written-Iff, written-All, written-Ex, written-One, written-Far, written-Pair}
 use Rattle.derived_ops.proofs.Placed.{ShapeFits}
 use Rattle.derived_ops.proofs.TermsPlaced.{Place, place_new, place_own, renamed_fits, number_fits, variable_fits, towards_fits, small_range}
@@ -161,7 +159,7 @@ module _ (w : World) (ground : Grounded w) where
   range_written (kind.Words words) fit =
       let whole = length-integers (pos 0) (length words) in
       let few = leb-true (length (values_of (kind.Words words))) MOST_VALUES
-          (and_parts (nat_lt 0 (length (values_of (kind.Words words)))) (nat_le (length (values_of (kind.Words words))) MOST_VALUES) fit).1 in
+      (and_parts (nat_lt 0 (length (values_of (kind.Words words)))) (nat_le (length (values_of (kind.Words words))) MOST_VALUES) fit).1 in
       (refl, written_number (pos (length words) -ℤ pos 1) (omega (arith, ints)) (omega (arith, ints, few, whole)))
 
   domain_written : (d : ℕ) (domain : Domain) → slice_get w.domains d ≡ Some domain → (is_written (range_of_domain w d).low ≡ true) × (is_written (range_of_domain w d).high ≡ true)
@@ -442,7 +440,7 @@ module _ (w : World) (ground : Grounded w) where
       let nest = plain_of (formula.Implies f g) (nest_of-Implies f g) in
       let room = room_of (formula.Implies f g) in
       let parts = two (formula.Implies f g) f g vs room fit_f fit_g (uses-Implies w f g vs) (greatest_bound-Implies w f g vs)
-          (omega (arith, nest, grouped f)) (omega (arith, nest, grouped g)) right small in
+      (omega (arith, nest, grouped f)) (omega (arith, nest, grouped g)) right small in
       record {
         at = λ k ls rs place space.
             let shape : ShapeFits w (either (no (written w f k ls)) (written w g k ls)) rs = (parts.left.at k ls rs place space, parts.other.at k ls rs place space) in
@@ -454,7 +452,7 @@ module _ (w : World) (ground : Grounded w) where
       let nest = plain_of (formula.Iff f g) (nest_of-Iff f g) in
       let room = room_of (formula.Iff f g) in
       let parts = two (formula.Iff f g) f g vs room fit_f fit_g (uses-Iff w f g vs) (greatest_bound-Iff w f g vs)
-          (omega (arith, nest, grouped f)) (omega (arith, nest, grouped g)) right small in
+      (omega (arith, nest, grouped f)) (omega (arith, nest, grouped g)) right small in
       record {
         at = λ k ls rs place space.
             let shape : ShapeFits w (equal (written w f k ls) (written w g k ls)) rs = (parts.left.at k ls rs place space, parts.other.at k ls rs place space) in

@@ -1,5 +1,5 @@
 -- What is appended to nodes that stand already.
-use Rattle.std.specs.Prelude.{◌≡◌, ℕ, zero, suc, ◌+◌, List, [], ◌∷◌, ◌++◌, length}
+use Rattle.std.specs.Prelude.{◌≡◌, ℕ, zero, suc, ◌+◌, [], ◌∷◌, ◌++◌, length}
 use Rattle.trio_base.specs.declared.operators.OneOp.{OneOp}
 use Rattle.trio_base.specs.declared.operators.OneOp.TheVariants as one
 use Rattle.trio_core.specs.declared.nodes.Node.{Node}
@@ -8,7 +8,7 @@ use Rattle.derived_ops.specs.declared.joint.Joint.{Joint}
 use Rattle.derived_ops.specs.declared.joint.Joint.TheVariants as joint
 use Rattle.derived_ops.specs.declared.writer.Writer.{Writer}
 use Rattle.derived_ops.specs.Shape.{Shape, no, equal, before_last, nodes_of}
-use Rattle.derived_ops.specs.Rewriting.{Written, opposite}
+use Rattle.derived_ops.specs.Rewriting.{Written}
 
 -- one node, of this number
 pub record Wrote (n : Node) (old new : Writer) (at : ℕ) : Type 0 where
@@ -44,8 +44,8 @@ Equates left right old new at =
     (s u : Shape) (first middle : Writer) → Adds s first middle left → Adds u middle old right → Adds (equal s u) first new at
 
 -- how many negations stand round what is at some instant, and round its part: one each where it is to be at every instant
-abbrev pub nots_of : OneOp → ℕ
-nots_of one.Alw = 1
-nots_of one.AlwF = 1
-nots_of one.AlwP = 1
-nots_of o = 0
+abbrev pub negations_of : OneOp → ℕ
+negations_of one.Alw = 1
+negations_of one.AlwF = 1
+negations_of one.AlwP = 1
+negations_of o = 0

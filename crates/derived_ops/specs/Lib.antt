@@ -4,3 +4,4 @@ pub mod Rewritten
 pub mod Terms
 pub mod Distances
 pub mod Adding
+pub mod Goals

@@ -4,8 +4,8 @@ ghost use Rattle.std.specs.Prelude.{◌≡◌, IfOk};
 use sqlite_items::Boxed;
 use std::alloc::{AllocError, Global};
 use trio_types::{
-    Domain, DomainKind, Domains, Formula, Formulas, Item, Items, List, Name, Names, SignedTerm,
-    SignedTerms, Term, Terms,
+    Axiom, Domain, DomainKind, Domains, Formula, Formulas, Item, Items, List, Name, Names,
+    SignedTerm, SignedTerms, Term, Terms,
 };
 
 pub fn copied_domains(alloc: Global, domains: &[Domain]) -> Result<Domains, AllocError>
@@ -72,9 +72,30 @@ fn copied_item(alloc: Global, item: &Item) -> Result<Item, AllocError>
     })
 }
 
-/// A formula's copy.
+pub fn copied_axioms(alloc: Global, axioms: &[Axiom]) -> Result<Vec<Axiom>, AllocError>
+    ensures { IfOk result (λ made. made.items ≡ axioms.now) }
+{
+    let mut made = Vec::new(alloc);
+    for claim in axioms {
+        made.push(copied_axiom(alloc, claim)?)?;
+    }
+    Ok(made)
+}
+
+fn copied_axiom(alloc: Global, claim: &Axiom) -> Result<Axiom, AllocError>
+    ensures { IfOk result (λ made. made ≡ claim.now) }
+{
+    let name = claim.name.copy(alloc)?;
+    let formula = copied_formula(alloc, &claim.formula)?;
+    Ok(Axiom {
+        name,
+        at: claim.at,
+        formula,
+    })
+}
+
 #[cycle(copied_formulas)]
-pub fn copied_formula(alloc: Global, formula: &Formula) -> Result<Formula, AllocError>
+fn copied_formula(alloc: Global, formula: &Formula) -> Result<Formula, AllocError>
     ensures { IfOk result (λ made. made ≡ formula.now) }
 {
     match formula {

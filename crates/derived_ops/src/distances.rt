@@ -1,10 +1,10 @@
-//! The distances that new variables range over.
+//! What operators ask for: the distances of new variables, which way they go, and negations.
 ghost use Rattle.std.specs.Prelude.{◌≡◌, ◌<◌, length, pos, neg_ℤ, ◌-ℤ◌};
 ghost use Rattle.trio_types.specs.World.{size_of};
 ghost use Rattle.trio_types.specs.Verdict.{world_of};
 ghost use Rattle.derived_ops.specs.Rewriting.{last, least_of, relation_of, range_of_domain, way_of};
 ghost use Rattle.derived_ops.specs.Distances.{lowest, highest};
-ghost use Rattle.derived_ops.specs.Adding.{nots_of};
+ghost use Rattle.derived_ops.specs.Adding.{negations_of};
 
 use crate::joint::Way;
 use trio_types::{DomainKind, Ends, OneOp, PairOp, Rel, Spec, size_of};
@@ -37,8 +37,8 @@ pub fn highest(spec: &Spec, op: OneOp) -> i64
 }
 
 /// One negation where the operator speaks of every instant.
-pub fn nots_of(op: OneOp) -> u32
-    ensures { result ≡ nots_of op }
+pub fn negations_of(op: OneOp) -> u32
+    ensures { result ≡ negations_of op }
 {
     match op {
         OneOp::Alw | OneOp::AlwF | OneOp::AlwP => 1,

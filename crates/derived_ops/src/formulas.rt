@@ -5,7 +5,7 @@ ghost use Rattle.derived_ops.specs.Rewriting.{all_joined, range_of_domain, for_s
 ghost use Rattle.derived_ops.specs.Shape.{no, either};
 ghost use Rattle.derived_ops.specs.Adding.{Adds, negated, many_opposite};
 
-use crate::distances::{nots_of, way_of};
+use crate::distances::{negations_of, way_of};
 use crate::joint::{Joint, Way};
 use crate::writer::{Writer, deeper};
 use std::alloc::AllocError;
@@ -99,39 +99,33 @@ impl Writer {
     fn quantified(
         &mut self,
         spec: &Spec,
-        nots: u32,
+        negations: u32,
         domain: u32,
         body: &Formula,
         level: u32,
     ) -> Result<u32, AllocError>
-        ensures { IfOk result (λ at. Adds (negated nots (for_some (range_of_domain (world_of spec.now) domain) (many_opposite nots (written (world_of spec.now) body.now)) level self.old.levels.items)) self.old self.new at) }
+        ensures { IfOk result (λ at. Adds (negated negations (for_some (range_of_domain (world_of spec.now) domain) (many_opposite negations (written (world_of spec.now) body.now)) level self.old.levels.items)) self.old self.new at) }
     {
         let inner = deeper(level)?;
         self.levels.push(level)?;
         let body = self.formula(spec, body, inner)?;
         self.levels.pop();
-        let part = self.nots(nots, body)?;
+        let part = self.negated(negations, body)?;
         let some = self.exists_value(spec, domain, part)?;
-        let at = self.nots(nots, some)?;
+        let at = self.negated(negations, some)?;
         Ok(at)
     }
 
     #[cycle(formulas)]
-    fn one(
-        &mut self,
-        spec: &Spec,
-        op: OneOp,
-        part: &Formula,
-        level: u32,
-    ) -> Result<u32, AllocError>
+    fn one(&mut self, spec: &Spec, op: OneOp, part: &Formula, level: u32) -> Result<u32, AllocError>
         ensures { IfOk result (λ at. Adds (one_written (world_of spec.now) op (written (world_of spec.now) part.now) level self.old.levels.items) self.old self.new at) }
     {
         let inner = deeper(level)?;
         let body = self.formula(spec, part, inner)?;
-        let part = self.nots(nots_of(op), body)?;
+        let part = self.negated(negations_of(op), body)?;
         let there = self.dist_of_variable(Way::Ahead, part, level)?;
         let some = self.exists_one(spec, op, there)?;
-        let at = self.nots(nots_of(op), some)?;
+        let at = self.negated(negations_of(op), some)?;
         Ok(at)
     }
 
@@ -189,17 +183,17 @@ impl Writer {
         spec: &Spec,
         way: Way,
         ends: Ends,
-        nots: u32,
+        negations: u32,
         part: &Formula,
         distance: &Term,
         level: u32,
     ) -> Result<u32, AllocError>
-        ensures { IfOk result (λ at. Adds (within (world_of spec.now) way ends (many_opposite nots (written (world_of spec.now) part.now)) distance.now level self.old.levels.items) self.old self.new at) }
+        ensures { IfOk result (λ at. Adds (within (world_of spec.now) way ends (many_opposite negations (written (world_of spec.now) part.now)) distance.now level self.old.levels.items) self.old self.new at) }
     {
         let inner = deeper(level)?;
         let near = self.near(ends, level, distance)?;
         let body = self.formula(spec, part, inner)?;
-        let part = self.nots(nots, body)?;
+        let part = self.negated(negations, body)?;
         let there = self.dist_of_variable(way, part, level)?;
         let both = self.write(Node::And(near, there))?;
         let at = self.exists_within(spec, ends, both)?;
@@ -213,14 +207,14 @@ impl Writer {
         spec: &Spec,
         way: Way,
         ends: Ends,
-        nots: u32,
+        negations: u32,
         part: &Formula,
         distance: &Term,
         level: u32,
     ) -> Result<u32, AllocError>
-        ensures { IfOk result (λ at. Adds (no (within (world_of spec.now) way ends (many_opposite nots (written (world_of spec.now) part.now)) distance.now level self.old.levels.items)) self.old self.new at) }
+        ensures { IfOk result (λ at. Adds (no (within (world_of spec.now) way ends (many_opposite negations (written (world_of spec.now) part.now)) distance.now level self.old.levels.items)) self.old self.new at) }
     {
-        let some = self.within(spec, way, ends, nots, part, distance, level)?;
+        let some = self.within(spec, way, ends, negations, part, distance, level)?;
         let at = self.write(Node::Not(some))?;
         Ok(at)
     }

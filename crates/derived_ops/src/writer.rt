@@ -174,7 +174,7 @@ impl Writer {
     }
 
     /// This many negations of a part.
-    pub fn nots(&mut self, count: u32, part: u32) -> Result<u32, AllocError>
+    pub fn negated(&mut self, count: u32, part: u32) -> Result<u32, AllocError>
         ensures { IfOk result (λ at. Negates count part self.old self.new at) }
     {
         let mut at = part;

@@ -65,7 +65,7 @@ read_one w number i look zs z e = at (slice_get w.items number) refl
         found item is (indexes w.domains item.args zs) refl (sym (ap (λ o. known_of_cell look (cell_of_item w number o zs i)) is) ∙ e)
 
 -- a known value of a cell is one of its values
-option_one : {X : Type 0} (o : Option X) (z : X) → known_of_option o ≡ One z → o ≡ Some z
+pub option_one : {X : Type 0} (o : Option X) (z : X) → known_of_option o ≡ One z → o ≡ Some z
 option_one None z e = absurd (nothing-one z e)
 option_one (Some x) z e = ap Some (same_One x z e)
 

@@ -8,10 +8,10 @@ pub mod Looks
 pub mod Sole
 pub mod NodesFit
 pub mod Decided
-mod Value3At
-mod Stays
-mod Sure
+pub mod Value3At
+pub mod Stays
+pub mod Sure
 mod Nodes3
-mod KnownAt
-mod TermsFit
-mod Evaluating
+pub mod KnownAt
+pub mod TermsFit
+pub mod Evaluating

@@ -89,7 +89,7 @@ length-zip (x ∷ xs) [] same = absurd (omega arith)
 length-zip (x ∷ xs) (y ∷ ys) same = ap suc (length-zip xs ys (omega arith))
 
 -- cells of one item have the same values
-same_values : (w : World) (a b : Cell) → same_cell a b ≡ true → cell_values w a ≡ cell_values w b
+pub same_values : (w : World) (a b : Cell) → same_cell a b ≡ true → cell_values w a ≡ cell_values w b
 same_values w a b same =
     let e : a.item ≡ b.item = eqb-true a.item b.item (and_parts (a.item == b.item) (bytes_eq a.args b.args && a.instant == b.instant) same).0 in
     rw e refl

@@ -311,7 +311,7 @@ arg_known w sets n args e i fits k x at =
 pub plain_known : (w : World) (sets : List ℕ) (x : Term) (e : List ℤ) (i : ℕ) (fits : TermFits w x e) → fits.reads ≡ false → (z : ℤ) × (value3 w x e (known_at w sets) i ≡ One z)
 plain_known w sets x e i fits silent = (all_plain w e (known_at w sets) i x).plain (ap (reaches w x (length e)) (sym silent) ∙ term_reaches w x e fits)
 
-each_arg : (w : World) (e : List ℤ) (look : Cell → Known ℤ) (i : ℕ) (args : List Term) → list_all (λ a. reaches w a (length e) false) args ≡ true →
+pub each_arg : (w : World) (e : List ℤ) (look : Cell → Known ℤ) (i : ℕ) (args : List Term) → list_all (λ a. reaches w a (length e) false) args ≡ true →
     Each (λ a. (z : ℤ) × (value3 w a e look i ≡ One z)) args
 each_arg w e look i [] all = tt
 each_arg w e look i (a ∷ args) all =

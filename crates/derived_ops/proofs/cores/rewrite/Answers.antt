@@ -1,5 +1,5 @@
 -- The core of a specification: its nodes, its type's fact, and what it stands for.
-use Rattle.std.proofs.Common.{◌≡◌, ◌<◌, length, take, get_or, refl, sym, ap, ◌∙◌, arith}
+use Rattle.std.proofs.Common.{◌≡◌, ◌<◌, length, take, get_or, refl, ap, ◌∙◌, arith}
 use Rattle.std.proofs.lemmas.List.{take_all}
 use Rattle.trio_types.specs.Verdict.{world_of}
 use Rattle.derived_ops.specs.Rewritten.{nodes_of_axioms, roots_of_axioms}

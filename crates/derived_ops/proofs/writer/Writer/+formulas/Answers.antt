@@ -1,5 +1,5 @@
 -- At each form of formula: what was appended is its shape.
-use Rattle.std.proofs.Common.{◌≡◌, ℕ, ◌+◌, map, arith, refl, sym, ap, ◌∙◌}
+use Rattle.std.proofs.Common.{◌≡◌, ℕ, ◌+◌, map, arith, refl, ap, ◌∙◌}
 use Rattle.trio_base.specs.declared.operators.Rel.TheVariants as rel
 use Rattle.trio_base.specs.declared.operators.Ends.TheVariants as ends
 use Rattle.trio_types.specs.declared.formula.Term.TheVariants as term
@@ -7,8 +7,8 @@ use Rattle.trio_types.specs.Verdict.{world_of}
 use Rattle.derived_ops.specs.Shape.{atom, no, exists, dist}
 use Rattle.derived_ops.specs.Rewriting.{Levels, renamed, all_joined, towards, within, up_to, written}
 use Rattle.derived_ops.specs.Distances.{lowest, highest}
-use Rattle.derived_ops.specs.Adding.{negated, many_opposite, nots_of}
-use Rattle.derived_ops.proofs.Weights.{weight, weights, weight-Not, weight-And, weight-Or, weight-Implies, weight-Iff, weight-All, weight-Ex, weight-One, weight-Far, weight-Pair, one_weight, front_weight, back_weight}
+use Rattle.derived_ops.specs.Adding.{negated, many_opposite, negations_of}
+use Rattle.derived_ops.proofs.Weights.{weight, weights, weight-Not, weight-And, weight-Or, weight-Implies, weight-Iff, weight-All, weight-Ex, weight-One, weight-Far, weight-Pair, front_weight, back_weight}
 use Rattle.derived_ops.proofs.Halves.{half_of, halved, halves}
 use Rattle.derived_ops.proofs.WrittenAt.{written-Lone, written-Compare, written-Not, written-And, written-Or, written-Implies, written-Iff, written-All, written-Ex, written-One, written-Far, written-Pair}
 use Rattle.derived_ops.proofs.Writing.{as_shape, as_written, framed, popped, add_atom, add_no, add_exists, add_dist, add_both, add_either, add_two, one_is}
@@ -152,7 +152,7 @@ quantified-returns t c =
     let w = world_of c.args.spec.now in
     let body = as_written w refl c.in_ok-inner.ensures c.in_ok-push.ensures.items c.in_ok-body.ensures in
     let levels = popped c.args.self.now.levels.items c.args.level c.formula.new.self.levels.items c.pop.new.self.items c.formula.new.self.levels.len
-        (c.in_ok-body.ensures.levels ∙ c.in_ok-push.ensures.items) c.formula.new.self.levels.ok.0 c.pop.ensures.rest in
+    (c.in_ok-body.ensures.levels ∙ c.in_ok-push.ensures.items) c.formula.new.self.levels.ok.0 c.pop.ensures.rest in
     let part = c.in_ok-part.ensures _ _ (framed refl refl levels body) in
     c.in_ok-at.ensures _ _ (add_exists refl refl part c.in_ok-some.ensures)
 
@@ -160,11 +160,11 @@ pub one-returns : goal.one-returns
 one-returns t c =
     let w = world_of c.args.spec.now in
     let body = as_written w refl c.in_ok-inner.ensures refl c.in_ok-body.ensures in
-    let inside = as_shape (ap (λ n. negated n (written w c.args.part.now (c.args.level + 1) c.args.self.now.levels.items)) c.nots_of.ensures) (c.in_ok-part.ensures _ _ body) in
+    let inside = as_shape (ap (λ n. negated n (written w c.args.part.now (c.args.level + 1) c.args.self.now.levels.items)) c.negations_of.ensures) (c.in_ok-part.ensures _ _ body) in
     let some = add_exists refl refl (add_dist refl inside c.in_ok-there.ensures) c.in_ok-some.ensures in
     let around = λ (n : ℕ). negated n (exists (lowest w c.args.op) (highest w c.args.op)
-        (dist (negated (nots_of c.args.op) (written w c.args.part.now (c.args.level + 1) c.args.self.now.levels.items)) (term.Var c.args.level))) in
-    as_shape (ap around c.nots_of-2.ensures ∙ one_is w c.args.op (written w c.args.part.now) c.args.level c.args.self.now.levels.items) (c.in_ok-at.ensures _ _ some)
+    (dist (negated (negations_of c.args.op) (written w c.args.part.now (c.args.level + 1) c.args.self.now.levels.items)) (term.Var c.args.level))) in
+    as_shape (ap around c.negations_of-2.ensures ∙ one_is w c.args.op (written w c.args.part.now) c.args.level c.args.self.now.levels.items) (c.in_ok-at.ensures _ _ some)
 
 pub far-returns-in_ok-at-in-Dist : goal.far-returns-in_ok-at-in-Dist
 far-returns-in_ok-at-in-Dist t c =

@@ -2,7 +2,7 @@
 use Rattle.std.proofs.Common.{◌≡◌, sym, ap, arith, add-one}
 use Rattle.derived_ops.specs.Adding.{negated}
 use Rattle.derived_ops.proofs.Writing.{as_shape, add_no}
-use Rattle.derived_ops.proofs.writer.Writer.nots.Goals as goal
+use Rattle.derived_ops.proofs.writer.Writer.negated.Goals as goal
 
 pub loop-init : goal.loop-init
 loop-init c = λ s first adds. adds
