@@ -9,3 +9,6 @@ pub mod Atoms
 pub mod OnlyTable
 pub mod Settling
 pub mod Lawful
+mod Leasts
+mod Readings
+mod Wanted
