@@ -8,4 +8,4 @@ mod Listed
 pub mod SetsFit
 mod Rooted
 mod Singled
-mod CodeReads
+pub mod CodeReads

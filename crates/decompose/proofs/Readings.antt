@@ -1,9 +1,11 @@
 -- The cells that a term reads, by its form.
-use Rattle.std.proofs.Common.{◌≡◌, ℕ, ℤ, List, [], ◌∷◌, ◌++◌, map, take, length, Option, None, Some, slice_get, zip, refl, sym, ap, ◌∙◌, arith}
+use Rattle.std.proofs.Common.{◌≡◌, ℕ, zero, suc, ℤ, Bool, List, [], ◌∷◌, ◌++◌, map, take, length, Option, None, Some, slice_get, find, refl, sym, ap, ◌∙◌, arith}
 use Rattle.std.specs.List.{flat_map, range_with_len}
-use Rattle.std.specs.Option.{option_and_then, option_to_list, option_map}
+use Rattle.std.specs.Option.{option_and_then, option_to_list, option_or}
 use Rattle.std.proofs.lemmas.Bool.{cond-true, lt-ltb}
-use Rattle.std.proofs.lemmas.Option.{slice_get_within, same_Some}
+use Rattle.std.proofs.lemmas.List.Folds.{find-append}
+use Rattle.std.proofs.lemmas.List.FromFn.{length-range_with_len}
+use Rattle.std.proofs.lemmas.Option.{none-some, slice_get_within, same_Some}
 use Rattle.trio_types.specs.declared.formula.SignedTerm.{SignedTerm}
 use Rattle.trio_types.specs.declared.formula.Term.{Term}
 use Rattle.trio_types.specs.declared.formula.Term.TheVariants as term
@@ -53,7 +55,7 @@ unfolding cell_number value_at
 number_is w n c at =
     let many = length (cells_of w) in
     let inside = slice_get_within (cells_of w) n c at in
-    let whole : length (range_with_len 0 many) ≡ many = search in
+    let whole : length (range_with_len 0 many) ≡ many = length-range_with_len 0 many in
     let x = get_within (range_with_len 0 many) n (omega (arith, whole, inside)) in
     let itself : x.0 ≡ n = omega (arith, (at_range 0 many n x.0 x.1).0) in
     let place = place_of (λ d. same_cell d c) (cells_of w) (range_with_len 0 many) n (entry_at w (range_with_len 0 many) n c whole at ∙ x.1 ∙ ap Some itself) in
@@ -73,3 +75,27 @@ cells_of_item w sets e i number args fits o told =
         option_to_list (option_and_then (cell_number w) (read_cell w number (arg_values w e (known_at w sets) i args) i)) ≡ option_to_list o
     by_cell None none = ap (λ c. option_to_list (option_and_then (cell_number w) c)) none
     by_cell (Some n) some = ap (λ c. option_to_list (option_and_then (cell_number w) c)) some.1 ∙ ap option_to_list (number_is w n some.0 some.2)
+
+-- Searching the cells that parts read.
+
+or_none : (a b : Option ℕ) → option_or a b ≡ None → (a ≡ None) × (b ≡ None)
+or_none None b is = (refl, is)
+or_none (Some x) b is = absurd (none-some x (sym is))
+
+pub none_of_both : (q : ℕ → Bool) (xs ys : List ℕ) → find q xs ≡ None → find q ys ≡ None → find q (xs ++ ys) ≡ None
+none_of_both q xs ys first second = find-append q xs ys ∙ ap (λ o. option_or o (find q ys)) first ∙ second
+
+pub first_of_both : (q : ℕ → Bool) (xs ys : List ℕ) (v : ℕ) → find q xs ≡ Some v → find q (xs ++ ys) ≡ Some v
+first_of_both q xs ys v first = find-append q xs ys ∙ ap (λ o. option_or o (find q ys)) first
+
+pub second_of_both : (q : ℕ → Bool) (xs ys : List ℕ) (o : Option ℕ) → find q xs ≡ None → find q ys ≡ o → find q (xs ++ ys) ≡ o
+second_of_both q xs ys o first second = find-append q xs ys ∙ ap (λ o. option_or o (find q ys)) first ∙ second
+
+-- in the first of many lists in which there is one
+pub found_in_flat : {X : Type 0} (q : ℕ → Bool) (f : X → List ℕ) (xs : List X) (k : ℕ) (x : X) (v : ℕ) → slice_get xs k ≡ Some x →
+    find q (flat_map f (take k xs)) ≡ None → find q (f x) ≡ Some v → find q (flat_map f xs) ≡ Some v
+found_in_flat q f [] k x v at before here = absurd (none-some x at)
+found_in_flat q f (y ∷ xs) zero x v at before here = first_of_both q (f y) (flat_map f xs) v (ap (λ y. find q (f y)) (same_Some y x at) ∙ here)
+found_in_flat q f (y ∷ xs) (suc k) x v at before here =
+    let none = or_none (find q (f y)) (find q (flat_map f (take k xs))) (sym (find-append q (f y) (flat_map f (take k xs))) ∙ before) in
+    second_of_both q (f y) (flat_map f xs) (Some v) none.0 (found_in_flat q f xs k x v at none.1 here)

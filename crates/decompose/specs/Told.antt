@@ -5,10 +5,10 @@ use Rattle.branch_state.specs.declared.branch.Want.{Want}
 use Rattle.branch_state.specs.declared.branch.Branch.{Branch}
 use Rattle.branch_state.specs.Branches.{branch}
 use Rattle.decompose.specs.declared.why.Why.TheVariants as why
-use Rattle.decompose.specs.declared.rows.Fate as the_fate
-use Rattle.decompose.specs.declared.rows.Fate.TheVariants as fate
-use Rattle.decompose.specs.declared.settling.Settled as the_settled
-use Rattle.decompose.specs.declared.settling.Settled.TheVariants as settled
+use Rattle.decompose.specs.declared.fates.Fate as the_fate
+use Rattle.decompose.specs.declared.fates.Fate.TheVariants as fate
+use Rattle.decompose.specs.declared.settlement.Settled as the_settled
+use Rattle.decompose.specs.declared.settlement.Settled.TheVariants as settled
 use Rattle.decompose.specs.declared.decision.Decision.{Decision}
 use Rattle.decompose.specs.declared.decision.Decision.TheVariants as decision
 use Rattle.decompose.specs.Rule.{Fate, Refuted, Becomes, Parts, Cuts, Ruled, Closed, Whole, Two, unwanted, cut_for_atom}

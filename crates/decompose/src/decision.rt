@@ -6,7 +6,7 @@ ghost use Rattle.branch_state.specs.Branches.{Fits, branch};
 ghost use Rattle.decompose.specs.Rule.{Two, ruled, unwanted, cut_cell};
 ghost use Rattle.decompose.specs.Told.{decision_told};
 
-use crate::settling::{Settled, add, settle, turned};
+use crate::settlement::{Settled, add, settle, turned};
 use crate::values::{first_undecided, least_member, least_table};
 use crate::why::Why;
 use branch_state::{Branch, Problem, Want, Wants, copy_wants, single_set};
@@ -51,7 +51,7 @@ fn cut_or_whole(alloc: Global, core: &Core, sets: &Doms) -> Result<Decision, All
     requires { AreSets (world_of_core core.now) sets.now }
     ensures { IfOk result (λ told. decision_told told ≡ unwanted (world_of_core core.now) sets.now) }
 {
-    match first_undecided(core, sets) {
+    match first_undecided(core, sets.as_slice()) {
         Some(cell) => Ok(cut(alloc, core, sets, Wants::new(alloc), cell)?),
         None => Ok(Decision::Whole(least_table(alloc, core, sets)?)),
     }

@@ -2,12 +2,13 @@
 #![tactic(auto)]
 
 mod decision;
+mod fates;
 mod fork;
 pub mod laws;
 mod leaf;
 mod reads;
-mod rows;
-mod settling;
+
+mod settlement;
 mod shut;
 mod stepping;
 mod steps;

@@ -7,7 +7,8 @@ ghost use Rattle.trio_core.specs.Stands.{world_of_core};
 ghost use Rattle.trio_core.specs.Fits.{TermFits};
 ghost use Rattle.decompose.specs.Reads.{first_undecided, atom_cells, reading};
 
-use trio_core::{Interpretation, Term, cell_read, sole_member};
+use crate::values::is_undecided;
+use trio_core::{Interpretation, Term, cell_read};
 use trio_types::SignedTerm;
 
 /// The first cell with several values that an atom of two terms reads, where there is one.
@@ -40,12 +41,15 @@ fn undecided_of_term(under: Interpretation<'_>, term: &Term, instant: u32) -> Op
         ≡ first_undecided (world_of_core under.entry.core.now) under.entry.doms.now (reading (world_of_core under.entry.core.now) term.now under.entry.values.now (known_at (world_of_core under.entry.core.now) under.entry.doms.now) instant).cells }
 {
     match term {
-        Term::Number(_) | Term::Value(_, _) | Term::Var(_) => None,
+        Term::Number(_) => None,
+        Term::Value(_, _) => None,
+        Term::Var(_) => None,
         Term::Read(item, args) => {
             let cell = cell_read(under, *item, args.as_slice(), instant)?;
-            match sole_member(under.doms[cell as usize]) {
-                Some(_) => None,
-                None => Some(cell),
+            if is_undecided(under.core, under.doms, cell) {
+                Some(cell)
+            } else {
+                None
             }
         }
         Term::Sum(parts) => undecided_of_parts(under, parts.as_slice(), instant),

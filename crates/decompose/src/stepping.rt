@@ -1,8 +1,8 @@
 //! One step.
 ghost use Rattle.std.specs.Prelude.{◌≡◌, ◌+◌, IfOk, MatchResult};
+ghost use Rattle.branch_state.specs.Posed.{IsPosed};
 ghost use Rattle.branch_state.specs.Branches.{Fits};
 ghost use Rattle.decompose.specs.Rule.{ruled};
-ghost use Rattle.decompose.specs.Law.{KeepsLaw};
 ghost use Rattle.decompose.specs.Told.{decision_told};
 ghost use Rattle.decompose.specs.Stepped.{answer, IsStep};
 
@@ -54,8 +54,9 @@ fn answered<'p>(
     decision: Decision,
 ) -> Result<Stepped<'p>, (Branch, AllocError)>
     requires fits { Fits problem.now branch }
-    requires law { KeepsLaw problem.now branch (decision_told decision) }
-    ensures rule { IfOk result (λ stepped. answer stepped ≡ decision_told decision) }
+    requires posed { IsPosed problem.now }
+    requires rule { decision_told decision ≡ ruled problem.now branch }
+    ensures rule { IfOk result (λ stepped. answer stepped ≡ ruled problem.now branch) }
     ensures held { MatchResult result (IsStep problem.now branch) (λ refused. refused.0 ≡ branch) }
 {
     match decision {

@@ -1,8 +1,8 @@
 //! The values that sets leave to cells.
-ghost use Rattle.std.specs.Prelude.{◌≡◌, ◌<◌, ℕ, ◌++◌, ◌∷◌, [], slice_get, Some, IsTrue, IfOk, OnOk};
+ghost use Rattle.std.specs.Prelude.{◌≡◌, ◌<◌, ℕ, length, ◌++◌, ◌∷◌, [], slice_get, Some, IsTrue, IfOk, OnOk};
 ghost use Rattle.trio_core.specs.Sets.{AreSets, is_set, members};
 ghost use Rattle.trio_core.specs.Stands.{world_of_core};
-ghost use Rattle.decompose.specs.Reads.{first_undecided, all_cells};
+ghost use Rattle.decompose.specs.Reads.{is_undecided, first_undecided, all_cells};
 ghost use Rattle.decompose.specs.Rule.{least_table};
 
 use history_table::Table;
@@ -17,14 +17,24 @@ pub(crate) fn least_member(set: u64) -> u32
     set.trailing_zeros()
 }
 
+/// Whether the cell of this number has several values.
+pub(crate) fn is_undecided(_core: &Core, sets: &[u64], cell: u32) -> bool
+    requires sets_fit { AreSets (world_of_core _core.now) sets.now }
+    requires cell_in { cell < length sets.now }
+    ensures { result ≡ is_undecided (world_of_core _core.now) sets.now cell }
+{
+    sole_member(sets[cell as usize]).is_none()
+}
+
 /// The first cell with several values, where there is one.
-pub(crate) fn first_undecided(core: &Core, sets: &Doms) -> Option<u32>
+pub(crate) fn first_undecided(core: &Core, sets: &[u64]) -> Option<u32>
     requires { AreSets (world_of_core core.now) sets.now }
     ensures { result ≡ first_undecided (world_of_core core.now) sets.now (all_cells (world_of_core core.now)) }
 {
-    for cell in 0..sets.len() {
-        if sole_member(*sets.get(cell)).is_none() {
-            return Some(cell as u32);
+    let cells = sets.len() as u32;
+    for cell in 0..cells {
+        if is_undecided(core, sets, cell) {
+            return Some(cell);
         }
     }
     None

@@ -1,6 +1,5 @@
 -- The answers to the goals of `node_truth` and `for_some`.
 use Rattle.std.proofs.Common.{◌≡◌, ℕ, ◌+◌, ◌<◌, ℤ, pos, negsuc, ◌^◌, ◌+ℤ◌, ◌≤ℤ◌, nat_abs, Fits, w32, T, to_z, of_z, w64, [], ◌∷◌, ◌++◌, length, drop, Some, subst, refl, sym, ap, ◌∙◌, arith, rules}
-use lib.Signed.{non_neg}
 use Rattle.std.proofs.lemmas.Int.{ints}
 use Rattle.std.proofs.lemmas.List.{take_more_set, take-set-le, length-set}
 use Rattle.trio_types.proofs.Bounded.{near_of}
@@ -14,17 +13,9 @@ use Rattle.trio_core.specs.Stands.{world_of_core, NodeAsked}
 use Rattle.trio_core.specs.Fits.{BodyFits}
 use Rattle.trio_core.proofs.TermsFit.{term_near}
 use Rattle.trio_core.proofs.NodesFit.{core_formed, part_asked, atom_terms, dist_term, exists_body, exists_before, dist_known}
-use Rattle.trio_core.proofs.Evaluating.{any_more, any_end, any_found, eval_atom, eval_not, eval_and, eval_or, eval_exists, eval_dist, any_at, none_at, written, passed_on, numbers_passed, one_of_numbers}
+use Rattle.trio_core.proofs.Evaluating.{any_more, any_end, any_found, eval_atom, eval_not, eval_and, eval_or, eval_exists, eval_dist, any_at, none_at, absolute, castable, written, passed_on, numbers_passed, one_of_numbers}
 use Rattle.trio_core.proofs.truth.+truth.Goals.{node_truth-else-target-ge0-via-then-target-ge0+else-target-from, node_truth-else-target-ge0-via-else-target-ge0}
 use Rattle.trio_core.proofs.truth.+truth.Goals as goal
-
--- a target inside time as a number
-absolute : (z : ℤ) → pos 0 ≤ℤ z → z ≡ pos (nat_abs z)
-absolute (pos n) from = refl
-absolute (negsuc n) from = absurd (omega (arith, ints, from))
-
-castable : (z : ℤ) (n : ℕ) → z ≡ pos n → n < 2 ^ 32 → T (non_neg z) × Fits w32 (nat_abs z)
-castable z n is small = rw is (tt, search rules)
 
 pub for_some-node_truth-requires : goal.for_some-node_truth-requires
 for_some-node_truth-requires t c =

@@ -8,7 +8,7 @@ ghost use Rattle.branch_state.specs.Posed.{IsPosed};
 ghost use Rattle.decompose.specs.Rule.{settled};
 ghost use Rattle.decompose.specs.Told.{settled_told};
 
-use crate::rows::{Fate, fate_of};
+use crate::fates::{Fate, fate_of};
 use branch_state::{List, Problem, Want, Wants};
 use std::alloc::{AllocError, Global};
 
@@ -33,7 +33,7 @@ pub(crate) fn settle(
     stack: &mut Wants,
 ) -> Result<Settled, AllocError>
     requires sets_fit { AreSets (world_of_core problem.now.core) sets.now }
-    requires wants_fit { All (WantFits problem.now) stack.old }
+    requires wants_fit { All (WantFits problem.now) (reverse stack.old) }
     ensures { IfOk result (λ told. settled_told (world_of_core problem.now.core) sets.now told (reverse stack.new) ≡ settled problem.now sets.now (reverse stack.old)) }
 {
     while let Some(want) = stack.pop() {
