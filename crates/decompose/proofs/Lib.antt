@@ -12,3 +12,4 @@ pub mod Lawful
 mod Leasts
 mod Readings
 mod Wanted
+mod Kept

@@ -1,17 +1,27 @@
--- Settling by more or fewer steps, and the wants of a stack.
-use Rattle.std.proofs.Common.{◌≡◌, ℕ, zero, suc, ◌+◌, ◌<◌, ◌≤◌, List, [], ◌∷◌, ◌++◌, All, Option, None, Some, reverse, slice_get, refl, sym, ap, ◌∙◌, subst, arith}
+-- What the code finds of a want, and settling by more or fewer steps.
+use Rattle.std.proofs.Common.{◌≡◌, ℕ, zero, suc, ◌+◌, ◌<◌, ◌≤◌, ℤ, pos, negsuc, ◌+ℤ◌, ◌-ℤ◌, ◌≤ℤ◌, Bool, true, false, not, List, [], ◌∷◌, ◌++◌, All, Option, None, Some, length, reverse, slice_get, refl, sym, ap, ◌∙◌, subst, arith}
 use Rattle.std.specs.List.{sum_by}
-use Rattle.std.proofs.lemmas.List.{reverse-append, append_assoc}
+use Rattle.std.proofs.lemmas.Int.{ints}
+use Rattle.std.proofs.lemmas.List.{reverse-append}
 use Rattle.std.proofs.lemmas.List.Elements.{All-head, All-tail, All-append}
 use Rattle.std.proofs.lemmas.List.Sums.{sum_by-cons, sum_by-append}
+use Rattle.trio_types.specs.World.{at_least_zero}
+use Rattle.trio_types.specs.WellFormed.{is_written}
+use Rattle.trio_types.proofs.Domains.{length-integers}
+use Rattle.trio_core.specs.declared.nodes.Core.{Core}
+use Rattle.trio_core.specs.declared.nodes.Three.{Three}
+use Rattle.trio_core.specs.declared.nodes.Three.TheVariants as three
+use Rattle.trio_core.specs.Core.{numbers}
+use Rattle.trio_core.specs.Three.{core_truth3}
 use Rattle.trio_core.specs.Stands.{world_of_core}
+use Rattle.trio_core.proofs.Evaluating.{written}
 use Rattle.branch_state.specs.declared.branch.Want.{Want}
 use Rattle.branch_state.specs.Posed.{Posed}
 use Rattle.branch_state.specs.Branches.{branch, WantFits}
 use Rattle.branch_state.specs.Weight.{want_weight}
 use Rattle.branch_state.proofs.Counted.{count_some}
 use Rattle.decompose.specs.declared.why.Why.TheVariants as why
-use Rattle.decompose.specs.Rule.{Fate, Refuted, Becomes, Parts, Cuts, Ruled, Closed, Two, fate, cut_for_atom, unwanted, settle_by, settle, wants_weight, settled}
+use Rattle.decompose.specs.Rule.{Fate, Refuted, Becomes, Parts, Cuts, Ruled, Closed, Two, fate, fate_by, want_truth3, row, cut_for_atom, unwanted, settle_by, settle, wants_weight, settled}
 use Rattle.decompose.proofs.Atoms.{fate_law}
 use Rattle.decompose.proofs.Rows.{FateLaw}
 
@@ -95,3 +105,45 @@ goes_on p sets want wants new fits is =
 -- a want behind the others of a stack comes first
 pub turned_push : (stack new : List Want) (want : Want) → new ≡ stack ++ want ∷ [] → reverse new ≡ want ∷ reverse stack
 turned_push stack new want is = ap reverse is ∙ reverse-append stack (want ∷ [])
+
+-- The fate of a want by its truth.
+
+pub truth_asked : (p : Posed) (sets : List ℕ) (want : Want) (core : Core) (e : List ℤ) (v : Three) → core ≡ p.core → e ≡ want.env →
+    v ≡ core_truth3 (world_of_core core) core.nodes want.node want.from e sets want.now → v ≡ want_truth3 p sets want
+truth_asked p sets want core e v same env is =
+    is ∙ ap (λ (core : Core). core_truth3 (world_of_core core) core.nodes want.node want.from e sets want.now) same
+    ∙ ap (λ e. core_truth3 (world_of_core p.core) p.core.nodes want.node want.from e sets want.now) env
+
+true_fate : (s : Bool) (rest : Fate) → fate_by three.True s Refuted ≡ fate_by three.True s rest
+true_fate true rest = refl
+true_fate false rest = refl
+
+false_fate : (s : Bool) (rest : Fate) → fate_by three.True (not s) Refuted ≡ fate_by three.False s rest
+false_fate true rest = refl
+false_fate false rest = refl
+
+row_of : Posed → List ℕ → Want → Fate
+row_of p sets want = row (world_of_core p.core) sets want (slice_get p.core.nodes want.node)
+
+pub fate_true : (p : Posed) (sets : List ℕ) (want : Want) → want_truth3 p sets want ≡ three.True → fate_by three.True want.sign Refuted ≡ fate p sets want
+unfolding fate row_of
+fate_true p sets want is = true_fate want.sign (row_of p sets want) ∙ sym (ap (λ v. fate_by v want.sign (row_of p sets want)) is)
+
+pub fate_false : (p : Posed) (sets : List ℕ) (want : Want) → want_truth3 p sets want ≡ three.False → fate_by three.True (not want.sign) Refuted ≡ fate p sets want
+unfolding fate row_of
+fate_false p sets want is = false_fate want.sign (row_of p sets want) ∙ sym (ap (λ v. fate_by v want.sign (row_of p sets want)) is)
+
+pub fate_unknown : (p : Posed) (sets : List ℕ) (want : Want) → want_truth3 p sets want ≡ three.Unknown → row (world_of_core p.core) sets want (slice_get p.core.nodes want.node) ≡ fate p sets want
+unfolding fate row_of
+fate_unknown p sets want is = sym (ap (λ v. fate_by v want.sign (row_of p sets want)) is)
+
+-- an Exists has few values
+few_at_most : (y : ℤ) → y ≤ℤ pos 2000001 → at_least_zero y ≤ 2000001
+few_at_most (pos n) most = omega (arith, ints, most)
+few_at_most (negsuc n) most = omega arith
+
+pub few_numbers : (low high : ℤ) → is_written low ≡ true → is_written high ≡ true → length (numbers low high) ≤ 2000001
+few_numbers low high l h =
+    let lb = written low l in
+    let hb = written high h in
+    omega (arith, length-integers low (at_least_zero ((high +ℤ pos 1) -ℤ low)), few_at_most ((high +ℤ pos 1) -ℤ low) (omega (arith, ints, lb.back, lb.on, hb.back, hb.on)))

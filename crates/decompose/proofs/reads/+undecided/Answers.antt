@@ -86,7 +86,7 @@ undecided_of_term-returns-in_err-cell-in-Read t c =
     let form : c.args.term.now ≡ term.Read n args = c.in-Read.is ∙ ap (term.Read n) (sym c.as_slice.ensures) in
     let fits = subst P form c.requires.term_fits in
     let told = c.cell_read.ensures (arg_values w e (known_at w sets) i args) (args_known w (known_at w sets) n args e i fits) in
-    let none = subst (IsCellRead w n (arg_values w e (known_at w sets) i args) i) (c.branch-cell-in-Read.ensures ∙ ap continue_value c.in_err-cell-in-Read.is) told in
+    let none = subst (IsCellRead w n (arg_values w e (known_at w sets) i args) i) (c.branch-cell.ensures ∙ ap continue_value c.in_err-cell-in-Read.is) told in
     c.from_residual.ensures ∙ sym (ap (first_undecided w sets) (ap (cells_read w sets e i) form ∙ cells_of_item w sets e i n args fits None none))
 
 pub undecided_of_term-is_undecided-requires-clause-cell_in : goal.undecided_of_term-is_undecided-requires-clause-cell_in
@@ -102,7 +102,7 @@ undecided_of_term-is_undecided-requires-clause-cell_in t c =
     let fits = subst P form c.requires.term_fits in
     let told = c.cell_read.ensures (arg_values w e (known_at w sets) i args) (args_known w (known_at w sets) n args e i fits) in
     let m = c.in_ok-cell-in-Read.cell in
-    let there = subst (IsCellRead w n (arg_values w e (known_at w sets) i args) i) (c.branch-cell-in-Read.ensures ∙ ap continue_value c.in_ok-cell-in-Read.is) told in
+    let there = subst (IsCellRead w n (arg_values w e (known_at w sets) i args) i) (c.branch-cell.ensures ∙ ap continue_value c.in_ok-cell-in-Read.is) told in
     omega (arith, c.requires.sets_fit.whole, slice_get_within (cells_of w) m there.0 there.2)
 
 pub undecided_of_term-returns-then-is_undecided : goal.undecided_of_term-returns-then-is_undecided
@@ -118,7 +118,7 @@ undecided_of_term-returns-then-is_undecided t c =
     let fits = subst P form c.requires.term_fits in
     let told = c.cell_read.ensures (arg_values w e (known_at w sets) i args) (args_known w (known_at w sets) n args e i fits) in
     let m = c.in_ok-cell-in-Read.cell in
-    let there = subst (IsCellRead w n (arg_values w e (known_at w sets) i args) i) (c.branch-cell-in-Read.ensures ∙ ap continue_value c.in_ok-cell-in-Read.is) told in
+    let there = subst (IsCellRead w n (arg_values w e (known_at w sets) i args) i) (c.branch-cell.ensures ∙ ap continue_value c.in_ok-cell-in-Read.is) told in
     sym (ap (first_undecided w sets) (ap (cells_read w sets e i) form ∙ cells_of_item w sets e i n args fits (Some m) there)
     ∙ cond-true (is_undecided w sets m) (Some m) None (sym c.is_undecided.ensures ∙ c.if-is_undecided.true))
 
@@ -135,7 +135,7 @@ undecided_of_term-returns-else-is_undecided t c =
     let fits = subst P form c.requires.term_fits in
     let told = c.cell_read.ensures (arg_values w e (known_at w sets) i args) (args_known w (known_at w sets) n args e i fits) in
     let m = c.in_ok-cell-in-Read.cell in
-    let there = subst (IsCellRead w n (arg_values w e (known_at w sets) i args) i) (c.branch-cell-in-Read.ensures ∙ ap continue_value c.in_ok-cell-in-Read.is) told in
+    let there = subst (IsCellRead w n (arg_values w e (known_at w sets) i args) i) (c.branch-cell.ensures ∙ ap continue_value c.in_ok-cell-in-Read.is) told in
     sym (ap (first_undecided w sets) (ap (cells_read w sets e i) form ∙ cells_of_item w sets e i n args fits (Some m) there)
     ∙ cond-false (is_undecided w sets m) (Some m) None (sym c.is_undecided.ensures ∙ c.if-is_undecided.false))
 

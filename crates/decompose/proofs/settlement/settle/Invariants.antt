@@ -11,5 +11,5 @@ invariant-loop-want l = record {
   same : settled l.problem l.sets (reverse l.stack) ≡ settled l.problem l.sets (reverse l.initial.stack);
 }
 
-abbrev pub measure-loop-want : goal.measure-loop-want
-measure-loop-want l = wants_weight l.problem (reverse l.stack)
+abbrev pub decreases-loop-want : goal.decreases-loop-want
+decreases-loop-want l = wants_weight l.problem (reverse l.stack)
