@@ -1,5 +1,5 @@
 -- What the parts of a step tell, in the words of the rule.
-use Rattle.std.specs.Prelude.{ℕ, List, [], ◌∷◌}
+use Rattle.std.specs.Prelude.{ℕ, ◌<◌, List, [], ◌∷◌, Some, length}
 use Rattle.trio_types.specs.World.{World}
 use Rattle.branch_state.specs.declared.branch.Want.{Want}
 use Rattle.branch_state.specs.declared.branch.Branch.{Branch}
@@ -27,6 +27,11 @@ settled_told world sets settled.Refuted wants = Closed why.Want
 settled_told world sets settled.Unwanted wants = unwanted world sets
 settled_told world sets (settled.Parts left first second) wants = Two (branch sets (left ∷ wants)) (branch sets (first ∷ second ∷ wants))
 settled_told world sets (settled.Cuts cell) wants = cut_for_atom world sets wants cell
+
+-- the cell by whose values the branch is parted has a set
+abbrev pub CutsInside : List ℕ → the_settled.Settled → Type 0
+CutsInside sets (settled.Cuts (Some cell)) = cell < length sets
+CutsInside sets told = Unit
 
 abbrev pub decision_told : Decision → Ruled
 decision_told (decision.Closed cause) = Closed cause

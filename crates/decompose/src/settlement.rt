@@ -6,7 +6,7 @@ ghost use Rattle.std.specs.List.{All};
 ghost use Rattle.branch_state.specs.Branches.{WantFits};
 ghost use Rattle.branch_state.specs.Posed.{IsPosed};
 ghost use Rattle.decompose.specs.Rule.{settled};
-ghost use Rattle.decompose.specs.Told.{settled_told};
+ghost use Rattle.decompose.specs.Told.{settled_told, CutsInside};
 
 use crate::fates::{Fate, fate_of};
 use branch_state::{List, Problem, Want, Wants};
@@ -34,7 +34,8 @@ pub(crate) fn settle(
 ) -> Result<Settled, AllocError>
     requires sets_fit { AreSets (world_of_core problem.now.core) sets.now }
     requires wants_fit { All (WantFits problem.now) (reverse stack.old) }
-    ensures { IfOk result (λ told. settled_told (world_of_core problem.now.core) sets.now told (reverse stack.new) ≡ settled problem.now sets.now (reverse stack.old)) }
+    ensures rule { IfOk result (λ told. settled_told (world_of_core problem.now.core) sets.now told (reverse stack.new) ≡ settled problem.now sets.now (reverse stack.old)) }
+    ensures inside { IfOk result (CutsInside sets.now) }
 {
     while let Some(want) = stack.pop() {
         match fate_of(alloc, problem, sets, &want)? {
