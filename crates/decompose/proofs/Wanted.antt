@@ -5,6 +5,7 @@ use Rattle.std.proofs.lemmas.Int.{ints}
 use Rattle.std.proofs.lemmas.List.{reverse-append}
 use Rattle.std.proofs.lemmas.List.Elements.{All-head, All-tail, All-append}
 use Rattle.std.proofs.lemmas.List.Sums.{sum_by-cons, sum_by-append}
+use Rattle.std.proofs.lemmas.Option.{slice_get_within}
 use Rattle.trio_types.specs.World.{at_least_zero}
 use Rattle.trio_types.specs.WellFormed.{is_written}
 use Rattle.trio_types.proofs.Domains.{length-integers}
@@ -22,7 +23,10 @@ use Rattle.branch_state.specs.Weight.{want_weight}
 use Rattle.branch_state.proofs.Counted.{count_some}
 use Rattle.decompose.specs.declared.why.Why.TheVariants as why
 use Rattle.decompose.specs.Rule.{Fate, Refuted, Becomes, Parts, Cuts, Ruled, Closed, Two, fate, fate_by, want_truth3, row, cut_for_atom, unwanted, settle_by, settle, wants_weight, settled}
+use Rattle.decompose.specs.declared.settlement.Settled.TheVariants as settled_code
+use Rattle.decompose.specs.Told.{CutsInside}
 use Rattle.decompose.proofs.Atoms.{fate_law}
+use Rattle.decompose.proofs.Cutting.{several_of}
 use Rattle.decompose.proofs.Rows.{FateLaw}
 
 -- more steps than the wants weigh settle no further
@@ -147,3 +151,18 @@ few_numbers low high l h =
     let lb = written low l in
     let hb = written high h in
     omega (arith, length-integers low (at_least_zero ((high +ℤ pos 1) -ℤ low)), few_at_most ((high +ℤ pos 1) -ℤ low) (omega (arith, ints, lb.back, lb.on, hb.back, hb.on)))
+
+-- the wants of a stack, where others take the place of the first
+pub stack_goes : (p : Posed) (sets : List ℕ) (before rest : List Want) (want : Want) (after new : List Want) → All (WantFits p) (reverse before) → before ≡ rest ++ want ∷ [] →
+    reverse after ≡ new ++ reverse rest → Becomes new ≡ fate p sets want → Goes p sets (reverse before) (reverse after)
+stack_goes p sets before rest want after new fits pop put is =
+    let turned = turned_push rest before want pop in
+    subst (λ l. Goes p sets l (reverse after)) (sym turned)
+    (subst (λ l. Goes p sets (want ∷ reverse rest) l) (sym put) (goes_on p sets want (reverse rest) new (subst (All (WantFits p)) turned fits) is))
+
+-- a cell that parts has a set
+pub cuts_inside : (p : Posed) (sets : List ℕ) (want : Want) → WantFits p want → (cell : Option ℕ) → Cuts cell ≡ fate p sets want → CutsInside sets (settled_code.Cuts cell)
+cuts_inside p sets want fits None is = tt
+cuts_inside p sets want fits (Some cell) is =
+    let several = several_of (world_of_core p.core) sets cell (subst (FateLaw p sets want) (sym is) (fate_law p sets want fits)) in
+    slice_get_within sets cell several.set several.set_at

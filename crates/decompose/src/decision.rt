@@ -2,6 +2,7 @@
 ghost use Rattle.std.specs.Prelude.{◌≡◌, ◌<◌, [], ◌∷◌, reverse, length, IfOk, slice_set};
 ghost use Rattle.trio_core.specs.Sets.{AreSets};
 ghost use Rattle.trio_core.specs.Stands.{world_of_core};
+ghost use Rattle.branch_state.specs.Posed.{IsPosed};
 ghost use Rattle.branch_state.specs.Branches.{Fits, branch};
 ghost use Rattle.decompose.specs.Rule.{Two, ruled, unwanted, cut_cell};
 ghost use Rattle.decompose.specs.Told.{decision_told};
@@ -29,7 +30,8 @@ pub(crate) fn decide(
     branch: &Branch,
 ) -> Result<Decision, AllocError>
     requires { Fits problem.now branch.now }
-    ensures { IfOk result (λ told. decision_told told ≡ ruled problem.now branch.now) }
+    ensures rule { IfOk result (λ told. decision_told told ≡ ruled problem.now branch.now) }
+    ensures posed { IsPosed problem.now }
 {
     let core = problem.core();
     let sets = &branch.doms;

@@ -1,6 +1,7 @@
 -- The answers to the goals of `answered`.
 use Rattle.std.proofs.Common.{◌≡◌, sym, ap, ◌∙◌}
 use Rattle.branch_state.specs.declared.branch.Branch.{Branch}
+use Rattle.decompose.specs.Held.{ForkView}
 use Rattle.decompose.specs.Rule.{Two}
 use Rattle.decompose.specs.Told.{decision_told}
 use Rattle.decompose.proofs.Kept.{shut_kept, leaf_kept, fork_kept, open_kept}
@@ -21,4 +22,10 @@ new-requires-in-Ok c =
 pub returns-in-Ok-clause-held : goal.returns-in-Ok-clause-held
 returns-in-Ok-clause-held c =
     let open_ = open_kept c.args.problem.now c.args.branch c.in-Two.left c.in-Two.right (sym (ap decision_told c.in-Two.is) ∙ c.requires.rule) in
-    search (open_)
+    let view = c.new-in-Ok.ensures in (
+      ap (λ (v : ForkView). v.problem) view,
+      ap (λ (v : ForkView). v.start) view,
+      ap (λ (v : ForkView). v.left) view ∙ c.in-Ok.ensures.0,
+      ap (λ (v : ForkView). v.right) view ∙ c.in-Ok.ensures.1,
+      open_,
+    )
