@@ -10,3 +10,7 @@ pub mod OnlyTable
 pub mod Settling
 pub mod Lawful
 pub mod Enough
+mod Leasts
+mod Readings
+mod Wanted
+mod Kept
