@@ -2,7 +2,6 @@
 use Rattle.std.specs.Prelude.{ℕ, ◌<◌, List, [], ◌∷◌, Some, length}
 use Rattle.trio_types.specs.World.{World}
 use Rattle.branch_state.specs.declared.branch.Want.{Want}
-use Rattle.branch_state.specs.declared.branch.Branch.{Branch}
 use Rattle.branch_state.specs.Branches.{branch}
 use Rattle.decompose.specs.declared.why.Why.TheVariants as why
 use Rattle.decompose.specs.declared.fates.Fate as the_fate

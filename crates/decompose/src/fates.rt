@@ -29,7 +29,7 @@ pub(crate) enum Fate {
     Both(Want, Want),
     /// The branch is parted: on the left the first takes its place, on the right the two others.
     Parts(Want, Want, Want),
-    /// It stays, and the branch is parted by the values of this cell.
+    /// It stays, and the branch is parted by the values of this cell. There is one where the want is not known.
     Cuts(Option<u32>),
 }
 
@@ -45,14 +45,7 @@ pub(crate) fn fate_of(
     ensures { IfOk result (λ told. fate_told told ≡ fate problem.now sets.now want.entry.now) }
 {
     let values = want.env.as_slice();
-    match truth3_in(
-        problem.core(),
-        want.node,
-        want.from,
-        want.now,
-        values,
-        sets,
-    ) {
+    match truth3_in(problem.core(), want.node, want.from, want.now, values, sets) {
         Three::True => Ok(known(want.sign)),
         Three::False => Ok(known(!want.sign)),
         Three::Unknown => Ok(row(alloc, problem, sets, want)?),
@@ -67,12 +60,7 @@ fn known(holds: bool) -> Fate
 }
 
 /// What becomes of a want of which that is not known, by its node and its sign.
-fn row(
-    alloc: Global,
-    problem: &Problem,
-    sets: &[u64],
-    want: &Want,
-) -> Result<Fate, AllocError>
+fn row(alloc: Global, problem: &Problem, sets: &[u64], want: &Want) -> Result<Fate, AllocError>
     requires sets_fit { AreSets (world_of_core problem.now.core) sets.now }
     requires want_fits { WantFits problem.now want.now }
     ensures { IfOk result (λ told. fate_told told ≡ row (world_of_core problem.now.core) sets.now want.entry.now (slice_get problem.now.core.nodes want.entry.now.node)) }
@@ -101,10 +89,7 @@ fn row(
 fn both(alloc: Global, want: &Want, a: u32, b: u32, sign: bool) -> Result<Fate, AllocError>
     ensures { IfOk result (λ told. fate_told told ≡ Becomes (part want.entry.now a sign ∷ part want.entry.now b sign ∷ [])) }
 {
-    Ok(Fate::Both(
-        part(alloc, want, a, sign)?,
-        part(alloc, want, b, sign)?,
-    ))
+    Ok(Fate::Both(part(alloc, want, a, sign)?, part(alloc, want, b, sign)?))
 }
 
 /// The first part is as said, or it is not and the second is.
@@ -139,10 +124,7 @@ fn for_none(alloc: Global, want: &Want, low: i64, a: u32) -> Result<Fate, AllocE
     requires not_last { want.now.from + 1 < 2 ^ 32 }
     ensures { IfOk result (λ told. fate_told told ≡ Becomes (body want.entry.now low a false ∷ later want.entry.now ∷ [])) }
 {
-    Ok(Fate::Both(
-        body(alloc, want, low, a, false)?,
-        later(alloc, want)?,
-    ))
+    Ok(Fate::Both(body(alloc, want, low, a, false)?, later(alloc, want)?))
 }
 
 /// The part is as wanted at the instant at a distance; outside time nothing is wanted.

@@ -36,12 +36,7 @@ pub struct ForkParts<'p> {
 }
 
 impl<'p> Fork<'p> {
-    pub(crate) fn new(
-        problem: &'p Problem,
-        start: Branch,
-        left: Branch,
-        right: Branch,
-    ) -> Fork<'p>
+    pub(crate) fn new(problem: &'p Problem, start: Branch, left: Branch, right: Branch) -> Fork<'p>
         requires { IsFork problem.now start left right }
         ensures { result ≡ fork_view problem.now start left right }
     {

@@ -7,7 +7,6 @@ mod fork;
 pub mod laws;
 mod leaf;
 mod reads;
-
 mod settlement;
 mod shut;
 mod stepping;

@@ -59,11 +59,7 @@ fn undecided_of_term(under: Interpretation<'_>, term: &Term, instant: u32) -> Op
 
 /// The same of the parts of a sum.
 #[cycle(undecided)]
-fn undecided_of_parts(
-    under: Interpretation<'_>,
-    parts: &[SignedTerm],
-    instant: u32,
-) -> Option<u32>
+fn undecided_of_parts(under: Interpretation<'_>, parts: &[SignedTerm], instant: u32) -> Option<u32>
     requires sets_fit { AreSets (world_of_core under.core.now) under.doms.now }
     requires term_fits { TermFits (world_of_core under.core.now) (term_of.Sum parts.now) under.values.now }
     requires instant_in { instant < under.core.now.instants }

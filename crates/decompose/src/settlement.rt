@@ -21,7 +21,7 @@ pub(crate) enum Settled {
     Unwanted,
     /// On the left the first takes its place, on the right the two others.
     Parts(Want, Want, Want),
-    /// It stands among the others, and the branch is parted by the values of this cell.
+    /// It stands among the others, and the branch is parted by the values of this cell. There is one where a want is not known.
     Cuts(Option<u32>),
 }
 

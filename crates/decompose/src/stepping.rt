@@ -74,11 +74,7 @@ fn answered<'p>(
 }
 
 /// A copy of both branches.
-fn twice(
-    alloc: Global,
-    left: &Branch,
-    right: &Branch,
-) -> Result<(Branch, Branch), AllocError>
+fn twice(alloc: Global, left: &Branch, right: &Branch) -> Result<(Branch, Branch), AllocError>
     ensures { IfOk result (λ made. (made.0 ≡ left.now) × (made.1 ≡ right.now)) }
 {
     let held_left = copy(alloc, left)?;

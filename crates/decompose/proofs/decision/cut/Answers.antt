@@ -1,7 +1,7 @@
 -- The answers to the goals of `cut`.
-use Rattle.std.proofs.Common.{◌≡◌, ◌-◌, ◌^◌, List, ℕ, slice_get, slice_set, sym, ap, ◌∙◌, arith}
+use Rattle.std.proofs.Common.{◌≡◌, ◌-◌, List, ℕ, slice_set, sym, ap, ◌∙◌, arith}
 use Rattle.trio_core.specs.Stands.{world_of_core}
-use Rattle.branch_state.specs.Branches.{branch, single_set}
+use Rattle.branch_state.specs.Branches.{branch}
 use Rattle.branch_state.specs.declared.branch.Want.{Want}
 use Rattle.decompose.specs.Rule.{Two, least_of_cell}
 use Rattle.decompose.proofs.Leasts.{set_positive, low_small, least_of_cell_is, left_out_is}

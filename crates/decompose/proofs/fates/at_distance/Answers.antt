@@ -1,5 +1,5 @@
 -- The answers to the goals of `at_distance`.
-use Rattle.std.proofs.Common.{◌≡◌, ℕ, ◌<◌, ℤ, pos, ◌+ℤ◌, ◌≤ℤ◌, nat_abs, to_z, of_z, w64, List, [], ◌∷◌, map, sym, ap, ◌∙◌, arith}
+use Rattle.std.proofs.Common.{◌≡◌, ◌<◌, pos, ◌+ℤ◌, ◌≤ℤ◌, nat_abs, to_z, of_z, w64, [], ◌∷◌, map, sym, ap, ◌∙◌, arith}
 use Rattle.std.proofs.lemmas.Int.{ints}
 use Rattle.trio_types.proofs.Bounded.{near_of}
 use Rattle.trio_types.proofs.Specs.{few_instants}

@@ -1,5 +1,5 @@
 -- The answers to the goals of `settle`.
-use Rattle.std.proofs.Common.{◌≡◌, ℕ, List, [], ◌∷◌, ◌++◌, All, Some, Option, reverse, subst, sym, ap, ◌∙◌}
+use Rattle.std.proofs.Common.{List, [], ◌∷◌, All, reverse, subst, sym, ap, ◌∙◌}
 use Rattle.std.proofs.lemmas.List.Elements.{All-head}
 use Rattle.trio_core.specs.Stands.{world_of_core}
 use Rattle.branch_state.specs.declared.branch.Want.{Want}
@@ -71,10 +71,10 @@ loop-want-smaller-after-branch-2 c =
     let goes : Goes p sets (reverse before) (reverse after) = elim c.match-branch-2.branch [
       | in-Dropped b ↦ stack_goes p sets before rest want after [] c.loop-want.invariant.fits c.in-Some.ensures (ap reverse b.stack-is) (sym (ap fate_told b.in-Dropped.is) ∙ c.in_ok-fate_of.ensures)
       | in-One+in_ok-add-in-One b ↦ stack_goes p sets before rest want after (b.in-One.first ∷ []) c.loop-want.invariant.fits c.in-Some.ensures
-        (ap reverse b.stack-is ∙ turned_push rest b.add.new.wants b.in-One.first b.in_ok-add-in-One.ensures) (sym (ap fate_told b.in-One.is) ∙ c.in_ok-fate_of.ensures)
+          (ap reverse b.stack-is ∙ turned_push rest b.add.new.wants b.in-One.first b.in_ok-add-in-One.ensures) (sym (ap fate_told b.in-One.is) ∙ c.in_ok-fate_of.ensures)
       | in-Both+in_ok-add-in-Both+in_ok-add-in-Both-2 b ↦ stack_goes p sets before rest want after (b.in-Both.first ∷ b.in-Both.second ∷ []) c.loop-want.invariant.fits c.in-Some.ensures
-        (ap reverse b.stack-is ∙ turned_push b.add-in-Both.new.wants b.add-in-Both-2.new.wants b.in-Both.first b.in_ok-add-in-Both-2.ensures
-        ∙ ap (λ l. b.in-Both.first ∷ l) (turned_push rest b.add-in-Both.new.wants b.in-Both.second b.in_ok-add-in-Both.ensures)) (sym (ap fate_told b.in-Both.is) ∙ c.in_ok-fate_of.ensures)
+          (ap reverse b.stack-is ∙ turned_push b.add-in-Both.new.wants b.add-in-Both-2.new.wants b.in-Both.first b.in_ok-add-in-Both-2.ensures
+          ∙ ap (λ l. b.in-Both.first ∷ l) (turned_push rest b.add-in-Both.new.wants b.in-Both.second b.in_ok-add-in-Both.ensures)) (sym (ap fate_told b.in-Both.is) ∙ c.in_ok-fate_of.ensures)
     ] in
     goes.lighter
 
@@ -89,10 +89,10 @@ loop-want-preserved-after-branch-2 c =
     let goes : Goes p sets (reverse before) (reverse after) = elim c.match-branch-2.branch [
       | in-Dropped b ↦ stack_goes p sets before rest want after [] c.loop-want.invariant.fits c.in-Some.ensures (ap reverse b.stack-is) (sym (ap fate_told b.in-Dropped.is) ∙ c.in_ok-fate_of.ensures)
       | in-One+in_ok-add-in-One b ↦ stack_goes p sets before rest want after (b.in-One.first ∷ []) c.loop-want.invariant.fits c.in-Some.ensures
-        (ap reverse b.stack-is ∙ turned_push rest b.add.new.wants b.in-One.first b.in_ok-add-in-One.ensures) (sym (ap fate_told b.in-One.is) ∙ c.in_ok-fate_of.ensures)
+          (ap reverse b.stack-is ∙ turned_push rest b.add.new.wants b.in-One.first b.in_ok-add-in-One.ensures) (sym (ap fate_told b.in-One.is) ∙ c.in_ok-fate_of.ensures)
       | in-Both+in_ok-add-in-Both+in_ok-add-in-Both-2 b ↦ stack_goes p sets before rest want after (b.in-Both.first ∷ b.in-Both.second ∷ []) c.loop-want.invariant.fits c.in-Some.ensures
-        (ap reverse b.stack-is ∙ turned_push b.add-in-Both.new.wants b.add-in-Both-2.new.wants b.in-Both.first b.in_ok-add-in-Both-2.ensures
-        ∙ ap (λ l. b.in-Both.first ∷ l) (turned_push rest b.add-in-Both.new.wants b.in-Both.second b.in_ok-add-in-Both.ensures)) (sym (ap fate_told b.in-Both.is) ∙ c.in_ok-fate_of.ensures)
+          (ap reverse b.stack-is ∙ turned_push b.add-in-Both.new.wants b.add-in-Both-2.new.wants b.in-Both.first b.in_ok-add-in-Both-2.ensures
+          ∙ ap (λ l. b.in-Both.first ∷ l) (turned_push rest b.add-in-Both.new.wants b.in-Both.second b.in_ok-add-in-Both.ensures)) (sym (ap fate_told b.in-Both.is) ∙ c.in_ok-fate_of.ensures)
     ] in
     record { fits = goes.fits; same = sym goes.same ∙ c.loop-want.invariant.same }
 
@@ -107,10 +107,10 @@ loop-want-smaller c =
     let goes : Goes p sets (reverse before) (reverse after) = elim c.match-branch-2.branch [
       | in-Dropped b ↦ stack_goes p sets before rest want after [] c.loop-want.invariant.fits c.in-Some.ensures (ap reverse b.stack-is) (sym (ap fate_told b.in-Dropped.is) ∙ c.in_ok-fate_of.ensures)
       | in-One+in_ok-add-in-One b ↦ stack_goes p sets before rest want after (b.in-One.first ∷ []) c.loop-want.invariant.fits c.in-Some.ensures
-        (ap reverse b.stack-is ∙ turned_push rest b.add.new.wants b.in-One.first b.in_ok-add-in-One.ensures) (sym (ap fate_told b.in-One.is) ∙ c.in_ok-fate_of.ensures)
+          (ap reverse b.stack-is ∙ turned_push rest b.add.new.wants b.in-One.first b.in_ok-add-in-One.ensures) (sym (ap fate_told b.in-One.is) ∙ c.in_ok-fate_of.ensures)
       | in-Both+in_ok-add-in-Both+in_ok-add-in-Both-2 b ↦ stack_goes p sets before rest want after (b.in-Both.first ∷ b.in-Both.second ∷ []) c.loop-want.invariant.fits c.in-Some.ensures
-        (ap reverse b.stack-is ∙ turned_push b.add-in-Both.new.wants b.add-in-Both-2.new.wants b.in-Both.first b.in_ok-add-in-Both-2.ensures
-        ∙ ap (λ l. b.in-Both.first ∷ l) (turned_push rest b.add-in-Both.new.wants b.in-Both.second b.in_ok-add-in-Both.ensures)) (sym (ap fate_told b.in-Both.is) ∙ c.in_ok-fate_of.ensures)
+          (ap reverse b.stack-is ∙ turned_push b.add-in-Both.new.wants b.add-in-Both-2.new.wants b.in-Both.first b.in_ok-add-in-Both-2.ensures
+          ∙ ap (λ l. b.in-Both.first ∷ l) (turned_push rest b.add-in-Both.new.wants b.in-Both.second b.in_ok-add-in-Both.ensures)) (sym (ap fate_told b.in-Both.is) ∙ c.in_ok-fate_of.ensures)
     ] in
     goes.lighter
 
@@ -125,10 +125,10 @@ loop-want-preserved c =
     let goes : Goes p sets (reverse before) (reverse after) = elim c.match-branch-2.branch [
       | in-Dropped b ↦ stack_goes p sets before rest want after [] c.loop-want.invariant.fits c.in-Some.ensures (ap reverse b.stack-is) (sym (ap fate_told b.in-Dropped.is) ∙ c.in_ok-fate_of.ensures)
       | in-One+in_ok-add-in-One b ↦ stack_goes p sets before rest want after (b.in-One.first ∷ []) c.loop-want.invariant.fits c.in-Some.ensures
-        (ap reverse b.stack-is ∙ turned_push rest b.add.new.wants b.in-One.first b.in_ok-add-in-One.ensures) (sym (ap fate_told b.in-One.is) ∙ c.in_ok-fate_of.ensures)
+          (ap reverse b.stack-is ∙ turned_push rest b.add.new.wants b.in-One.first b.in_ok-add-in-One.ensures) (sym (ap fate_told b.in-One.is) ∙ c.in_ok-fate_of.ensures)
       | in-Both+in_ok-add-in-Both+in_ok-add-in-Both-2 b ↦ stack_goes p sets before rest want after (b.in-Both.first ∷ b.in-Both.second ∷ []) c.loop-want.invariant.fits c.in-Some.ensures
-        (ap reverse b.stack-is ∙ turned_push b.add-in-Both.new.wants b.add-in-Both-2.new.wants b.in-Both.first b.in_ok-add-in-Both-2.ensures
-        ∙ ap (λ l. b.in-Both.first ∷ l) (turned_push rest b.add-in-Both.new.wants b.in-Both.second b.in_ok-add-in-Both.ensures)) (sym (ap fate_told b.in-Both.is) ∙ c.in_ok-fate_of.ensures)
+          (ap reverse b.stack-is ∙ turned_push b.add-in-Both.new.wants b.add-in-Both-2.new.wants b.in-Both.first b.in_ok-add-in-Both-2.ensures
+          ∙ ap (λ l. b.in-Both.first ∷ l) (turned_push rest b.add-in-Both.new.wants b.in-Both.second b.in_ok-add-in-Both.ensures)) (sym (ap fate_told b.in-Both.is) ∙ c.in_ok-fate_of.ensures)
     ] in
     record { fits = goes.fits; same = sym goes.same ∙ c.loop-want.invariant.same }
 

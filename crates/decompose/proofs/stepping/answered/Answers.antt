@@ -1,5 +1,5 @@
 -- The answers to the goals of `answered`.
-use Rattle.std.proofs.Common.{◌≡◌, sym, ap, ◌∙◌}
+use Rattle.std.proofs.Common.{sym, ap, ◌∙◌}
 use Rattle.branch_state.specs.declared.branch.Branch.{Branch}
 use Rattle.decompose.specs.Held.{ForkView}
 use Rattle.decompose.specs.Rule.{Two}
