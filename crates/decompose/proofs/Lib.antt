@@ -5,7 +5,7 @@ pub mod Truths
 pub mod Rows
 pub mod Undecided
 pub mod ReadOrder
-pub mod Fates
+pub mod Atoms
 pub mod OnlyTable
 pub mod Settling
 pub mod Lawful
