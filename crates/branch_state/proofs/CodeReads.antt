@@ -83,8 +83,14 @@ open_set p posed n size at sized =
     }
 
 -- there are few cells, and a set for each
+cells_few : (spec : Spec) → length (cells_of (world_of spec)) ≤ 1024
+cells_few spec = omega (arith, cell_count_is (world_of spec), few_cells (parts_of spec) (formed spec))
+
 pub few_given : (p : Posed) → IsPosed p → length p.given ≤ 1024
-few_given p posed = omega (arith, posed.fits.whole, cell_count_is (world_of_problem p), few_cells (parts_of p.spec) (formed p.spec))
+few_given p posed = omega (arith, posed.fits.whole, cells_few p.spec)
+
+pub few_indexes : (spec : Spec) (table : List ℕ) → IsTable (world_of spec) table → length table ≤ 1024
+few_indexes spec table fits = omega (arith, fits.whole, cells_few spec)
 
 pub sets_whole : (p : Posed) → IsPosed p → length (root_sets p) ≡ length p.given
 sets_whole p posed = (root_sets_fit p posed).are_sets.whole ∙ sym posed.fits.whole

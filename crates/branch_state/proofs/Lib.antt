@@ -8,4 +8,5 @@ mod Listed
 pub mod SetsFit
 mod Rooted
 mod Singled
+mod HoldsInTable
 pub mod CodeReads

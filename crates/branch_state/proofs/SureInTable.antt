@@ -6,7 +6,7 @@ use Rattle.trio_types.specs.World.{World}
 use Rattle.trio_types.specs.Cells.{Cell, IsTable, cells_of, cell_size}
 use Rattle.trio_core.specs.declared.nodes.Node.{Node}
 use Rattle.trio_core.specs.Core.{core_truth_from}
-use Rattle.trio_core.specs.Sets.{members, AreSingle, LiesIn}
+use Rattle.trio_core.specs.Sets.{members, AreSets, AreSingle, LiesIn}
 use Rattle.trio_core.specs.Three.{sure, core_truth3}
 use Rattle.trio_core.proofs.Sole.{one_bit}
 use Rattle.trio_core.proofs.Decided.{truth_law, single_law}
@@ -23,13 +23,16 @@ singles_are_single w (c ∷ cs) (v ∷ vs) below =
     and_from (length (members (cell_size w c) (single_set v)) == 1) (list_all (λ q. length (members (cell_size w q.0) q.1) == 1) (zip cs (map single_set vs)))
     (eq-eqb (length (members (cell_size w c) (single_set v))) 1 (ap length only)) (singles_are_single w cs vs under.1)
 
+pub singles_are_sets : (w : World) (table : List ℕ) → IsTable w table → AreSets w (map single_set table)
+singles_are_sets w table is = record { whole = singles_length table ∙ is.whole; each = singles_fit w (cells_of w) table is.within }
+
 pub sure_in_table : (w : World) (nodes : List Node) (table : List ℕ) → IsTable w table → (a from : ℕ) (e : List ℤ) (i : ℕ) →
     core_truth3 w nodes a from e (map single_set table) i ≡ sure (core_truth_from w nodes a from e table i)
 sure_in_table w nodes table is a from e i =
     let sets = map single_set table in
     let single : AreSingle w sets =
     record {
-      are_sets = record { whole = singles_length table ∙ is.whole; each = singles_fit w (cells_of w) table is.within };
+      are_sets = singles_are_sets w table is;
       each = singles_are_single w (cells_of w) table is.within;
     } in
     let lies : LiesIn w sets table = record { is_table = is; as_many = singles_length table; inside = lies_in_singles table } in

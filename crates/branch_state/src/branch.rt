@@ -18,6 +18,7 @@ pub struct Want {
     pub from: u32,
 }
 
+/// Wants, each of which is to hold.
 pub type Wants = List<Want>;
 
 /// Sets of values and wants: it represents the models whose values lie in the sets and in which every want holds.
@@ -27,4 +28,5 @@ pub struct Branch {
     pub wants: Wants,
 }
 
+/// Branches, in order.
 pub type Branches = List<Branch>;

@@ -1,5 +1,6 @@
 //! Sets of value indexes as words.
 ghost use Rattle.std.specs.Prelude.{◌≡◌, [], ◌∷◌, ◌++◌, ◌<◌, ◌≤◌, OnOk};
+ghost use Rattle.trio_core.specs.Sets.{set_has};
 ghost use Rattle.branch_state.specs.Branches.{full_set, single_set};
 
 use std::alloc::AllocError;
@@ -11,6 +12,14 @@ pub fn single_set(index: u32) -> u64
     ensures { result ≡ single_set index }
 {
     1 << index
+}
+
+/// Whether an index is in a set.
+pub(crate) fn has(set: u64, index: u32) -> bool
+    requires { index < 64 }
+    ensures { result ≡ set_has set index }
+{
+    set >> index & 1 == 1
 }
 
 /// The set of all indexes below a size.

@@ -138,6 +138,16 @@ dist_law p sets w a x fits at unknown =
         alone false true = refl
         alone false false = refl
 
+-- an Exists that is not known has values left
+pub exists_left : (p : Posed) (sets : List ℕ) (w : Want) (low high : ℤ) (a : ℕ) → want_truth3 p sets w ≡ three.Unknown → slice_get p.core.nodes w.node ≡ Some (node.Exists low high a) →
+    w.from < length (numbers low high)
+exists_left p sets w low high a unknown at =
+    ⊎_elim (λ inside. inside)
+    (λ past. absurd (not_known false (sym unknown
+    ∙ eval_exists (world_of_core p.core) p.core.nodes w.node w.from low high a w.env sets w.now at (exists_before p.core w.node low high a at)
+    ∙ ap (any3 (λ z. core_truth3 (world_of_core p.core) p.core.nodes a 0 (w.env ++ z ∷ []) sets w.now)) (drop_all w.from (numbers low high) past))))
+    (cases_lt w.from (length (numbers low high)))
+
 -- a want whose truth is not known
 row_law : (p : Posed) (sets : List ℕ) (w : Want) → WantFits p w → want_truth3 p sets w ≡ three.Unknown → (n : Node) → slice_get p.core.nodes w.node ≡ Some n →
     FateLaw p sets w (row (world_of_core p.core) sets w (Some n))
@@ -147,13 +157,7 @@ row_law p sets w fits unknown (node.And a b) at = and_law p sets w a b fits at w
 row_law p sets w fits unknown (node.Or a b) at = or_law p sets w a b fits at w.sign refl
 row_law p sets w fits unknown (node.Dist a x) at = dist_law p sets w a x fits at unknown
 row_law p sets w fits unknown (node.Exists low high a) at =
-    exists_law p sets w low high a fits at
-    (⊎_elim (λ inside. inside)
-    (λ past. absurd (not_known false (sym unknown
-    ∙ eval_exists (world_of_core p.core) p.core.nodes w.node w.from low high a w.env sets w.now at (exists_before p.core w.node low high a at)
-    ∙ ap (any3 (λ z. core_truth3 (world_of_core p.core) p.core.nodes a 0 (w.env ++ z ∷ []) sets w.now)) (drop_all w.from (numbers low high) past))))
-    (cases_lt w.from (length (numbers low high))))
-    w.sign refl
+    exists_law p sets w low high a fits at (exists_left p sets w low high a unknown at) w.sign refl
 
 -- one whose truth is known holds in every table that lies in the sets, or in none
 known_law : (p : Posed) (sets : List ℕ) (w : Want) (b : Bool) → want_truth3 p sets w ≡ sure b → (table : List ℕ) → LiesIn (world_of_core p.core) sets table → truth_of p table w ≡ b

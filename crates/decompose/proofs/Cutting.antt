@@ -89,7 +89,7 @@ lies_split (z ∷ sets) (u ∷ table) (suc n) s x y at inside adds =
     both_right (set_has z u) (lies_in sets table) (lies_in (slice_set sets n x) table) (lies_in (slice_set sets n y) table) (lies_split sets table n s x y at (omega (arith, inside)) adds)
 
 -- a cell with several values: its set, and the least of them
-pub record Several (w : World) (sets : List ℕ) (n : ℕ) : Type 0 where
+pub record HasSeveral (w : World) (sets : List ℕ) (n : ℕ) : Type 0 where
   pub cell : Cell
   pub set : ℕ
   pub value : ℕ
@@ -110,11 +110,11 @@ first_of : (xs : List ℕ) → 2 ≤ length xs → (x : ℕ) × (slice_get xs 0 
 first_of [] some = absurd (omega (arith, some))
 first_of (x ∷ xs) some = (x, refl, refl)
 
-pub several_of : (w : World) (sets : List ℕ) (n : ℕ) → is_undecided w sets n ≡ true → Several w sets n
+pub several_of : (w : World) (sets : List ℕ) (n : ℕ) → is_undecided w sets n ≡ true → HasSeveral w sets n
 unfolding members_at
 several_of w sets n open_ = at (slice_get (zip (cells_of w) sets) n) refl
   where
-    at : (o : Option (Cell × ℕ)) → slice_get (zip (cells_of w) sets) n ≡ o → Several w sets n
+    at : (o : Option (Cell × ℕ)) → slice_get (zip (cells_of w) sets) n ≡ o → HasSeveral w sets n
     at None is = absurd (omega (arith, ltb-true 1 (length (members_at w sets n)) open_, ap (λ o. length (members_of w o)) is))
     at (Some q) is =
         let parts = parts_of_zip (cells_of w) sets n q is in
@@ -160,7 +160,7 @@ sets_lighter w sets n c x s cell_at set_at several less =
     omega (arith, several, less, sum_with (λ q. length (members (cell_size w q.0) q.1) - 1) (cells_of w) sets n c s x cell_at set_at)
 
 -- a branch parted by the values of a cell
-pub cut_halves : (p : Posed) (sets : List ℕ) (wants : List Want) → Fits p (branch sets wants) → (n : ℕ) (s : Several (world_of_problem p) sets n) →
+pub cut_halves : (p : Posed) (sets : List ℕ) (wants : List Want) → Fits p (branch sets wants) → (n : ℕ) (s : HasSeveral (world_of_problem p) sets n) →
     AreHalves p (branch sets wants) (branch (slice_set sets n (single_set s.value)) wants) (branch (slice_set sets n (s.set - single_set s.value)) wants)
 cut_halves p sets wants fits n s =
     let w = world_of_problem p in
@@ -194,6 +194,6 @@ cut_law p posed sets wants fits n open_ =
     subst (λ w. KeepsLaw p (branch sets wants) (cut_cell w sets wants n)) (sym same)
     (in_spec (several_of (world_of_problem p) sets n (sym (ap (λ w. is_undecided w sets n) same) ∙ open_)))
   where
-    in_spec : Several (world_of_problem p) sets n → KeepsLaw p (branch sets wants) (cut_cell (world_of_problem p) sets wants n)
+    in_spec : HasSeveral (world_of_problem p) sets n → KeepsLaw p (branch sets wants) (cut_cell (world_of_problem p) sets wants n)
     in_spec s =
         rw (s.value_is, s.set_is) (cut_halves p sets wants fits n s)

@@ -9,6 +9,7 @@ pub mod Atoms
 pub mod OnlyTable
 pub mod Settling
 pub mod Lawful
+pub mod Enough
 mod Leasts
 mod Readings
 mod Wanted

@@ -1,5 +1,5 @@
 -- The law of one step: what the rule makes of a branch represents what the branch represents.
-use Rattle.std.specs.Prelude.{◌≡◌, ◌<◌, [], ◌∷◌, ◌++◌}
+use Rattle.std.specs.Prelude.{◌≡◌, ℕ, ◌<◌, ◌≤◌, [], ◌∷◌, ◌++◌}
 use Rattle.trio_core.specs.declared.nodes.Three.TheVariants as three
 use Rattle.trio_core.specs.Stands.{spec_truth3}
 use Rattle.trio_lists.specs.Multisets.{Permutes}
@@ -7,7 +7,7 @@ use Rattle.branch_state.specs.declared.branch.Branch.{Branch}
 use Rattle.branch_state.specs.Posed.{Posed, IsPosed}
 use Rattle.branch_state.specs.Branches.{reps, Fits}
 use Rattle.branch_state.specs.Weight.{weight}
-use Rattle.decompose.specs.Rule.{Ruled, Closed, Whole, Two, ruled}
+use Rattle.decompose.specs.Rule.{Ruled, Closed, Whole, Two, wants_weight, settle, settled, ruled}
 
 -- two branches are the halves of one: together they represent its models, each once, and both fit and are lighter
 pub record AreHalves (p : Posed) (b left right : Branch) : Type 0 where
@@ -30,3 +30,8 @@ StepLaw = (p : Posed) → IsPosed p → (b : Branch) → Fits p b → KeepsLaw p
 -- no branch is parted under whose sets the specification is false
 abbrev pub OpenLaw : Type 0
 OpenLaw = (p : Posed) (b left right : Branch) → ruled p b ≡ Two left right → spec_truth3 p.core b.doms ≡ three.False → ⊥
+
+-- settling has come to its end within the steps that the rule allows: further steps change nothing
+abbrev pub EnoughLaw : Type 0
+EnoughLaw =
+    (p : Posed) (b : Branch) → Fits p b → (steps : ℕ) → wants_weight p b.wants ≤ steps → settle p b.doms steps b.wants ≡ settled p b.doms b.wants

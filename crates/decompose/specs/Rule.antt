@@ -76,6 +76,7 @@ dist_row world want a Nothing = Becomes []
 dist_row world want a Several = Becomes []
 dist_row world want a (One d) = Becomes (map (part_at want a) (at_distance world want.now (Some d)))
 
+-- a want that fits has a node
 abbrev pub row : World → List ℕ → Want → Option Node → Fate
 row world sets want None = Cuts None
 row world sets want (Some (node.Atom r x y)) = Cuts (first_undecided world sets (atom_cells world x y want.env sets want.now))
