@@ -1,5 +1,5 @@
 -- What the code finds of a want, and how settling goes on from there.
-use Rattle.std.proofs.Common.{◌≡◌, ℕ, zero, suc, ◌<◌, ◌≤◌, ℤ, pos, negsuc, ◌+ℤ◌, ◌-ℤ◌, ◌≤ℤ◌, Bool, true, false, not, List, [], ◌∷◌, ◌++◌, All, Option, None, Some, length, reverse, slice_get, refl, sym, ap, ◌∙◌, subst, arith}
+use Rattle.std.proofs.Common.{◌≡◌, ℕ, ◌<◌, ◌≤◌, ℤ, pos, negsuc, ◌+ℤ◌, ◌-ℤ◌, ◌≤ℤ◌, Bool, true, false, not, List, [], ◌∷◌, ◌++◌, All, Option, None, Some, length, reverse, slice_get, refl, sym, ap, ◌∙◌, subst, arith}
 use Rattle.std.proofs.lemmas.Int.{ints}
 use Rattle.std.proofs.lemmas.List.{reverse-append}
 use Rattle.std.proofs.lemmas.List.Elements.{All-head, All-tail, All-append}
@@ -19,9 +19,8 @@ use Rattle.branch_state.specs.declared.branch.Want.{Want}
 use Rattle.branch_state.specs.Posed.{Posed}
 use Rattle.branch_state.specs.Branches.{branch, WantFits}
 use Rattle.branch_state.specs.Weight.{want_weight}
-use Rattle.branch_state.proofs.Counted.{count_some}
 use Rattle.decompose.specs.declared.why.Why.TheVariants as why
-use Rattle.decompose.specs.Rule.{Fate, Refuted, Becomes, Parts, Cuts, Closed, Two, fate, fate_by, want_truth3, row, cut_for_atom, unwanted, settle_by, settle, wants_weight, settled}
+use Rattle.decompose.specs.Rule.{Fate, Refuted, Becomes, Parts, Cuts, Closed, Two, fate, fate_by, want_truth3, row, cut_for_atom, settle_by, wants_weight, settled}
 use Rattle.decompose.specs.declared.settlement.Settled.TheVariants as settled_code
 use Rattle.decompose.specs.Told.{CutsInside}
 use Rattle.decompose.proofs.Atoms.{fate_law}
