@@ -1,5 +1,5 @@
 -- The answers to the goals of `node_truth` and `for_some`.
-use Rattle.std.proofs.Common.{◌≡◌, ℕ, ◌+◌, ◌<◌, ℤ, pos, negsuc, ◌^◌, ◌+ℤ◌, ◌≤ℤ◌, nat_abs, Fits, w32, T, to_z, of_z, w64, [], ◌∷◌, ◌++◌, length, drop, Some, subst, refl, sym, ap, ◌∙◌, arith, rules}
+use Rattle.std.proofs.Common.{◌≡◌, ◌+◌, ◌<◌, ℤ, pos, ◌+ℤ◌, ◌≤ℤ◌, nat_abs, to_z, of_z, w64, [], ◌∷◌, ◌++◌, length, drop, Some, subst, refl, sym, ap, ◌∙◌, arith}
 use Rattle.std.proofs.lemmas.Int.{ints}
 use Rattle.std.proofs.lemmas.List.{take_more_set, take-set-le, length-set}
 use Rattle.trio_types.proofs.Bounded.{near_of}
