@@ -80,7 +80,7 @@ pub fn put_timeline(
 /// The instants that fit into the lines, round this one.
 fn window_round(spec: &Spec, rows: &[Row], instant: usize) -> Window {
     let instants = spec.instants as usize;
-    let name_width = widest_name(rows).min(MOST_NAME);
+    let name_width = widest_name(rows).min(MOST_NAME).saturating_add(1);
     let value_width = widest_value(spec).max(digits(instants)).min(MOST_VALUE);
     let count = fitting(name_width, value_width).min(instants);
     let first = instant
