@@ -1,5 +1,6 @@
 -- The line and the column that come behind a text.
-use Rattle.std.specs.Prelude.{ℕ, ◌+◌, ◌==◌, not, List, length, reverse, filter, take_while}
+use Rattle.std.specs.Prelude.{ℕ, ◌+◌, ◌==◌, not, List, length, reverse}
+use Rattle.std.specs.List.{filter, take_while}
 
 -- one more than its LFs
 abbrev pub line_behind : List ℕ → ℕ

@@ -1,7 +1,7 @@
 //! The words of the command line.
 
 /// What the words ask for; each command names its files.
-#[derive(Clone, Copy, Debug)]
+#[derive(Clone, Copy)]
 pub enum Command<'a> {
     /// Whether a history satisfies a specification: the names of the specification's and the history's file.
     Check(&'a str, &'a str),

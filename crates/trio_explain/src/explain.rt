@@ -30,14 +30,14 @@ const WRITE_FAULT: u8 = 6;
 pub const MEMORY: u8 = 7;
 
 /// A status and what is said with it.
-#[derive(Debug, Drop)]
+#[derive(Drop)]
 struct Answer {
     status: u8,
     text: Vec<u8>,
 }
 
 /// Why a command goes no further.
-#[derive(Debug, Drop)]
+#[derive(Drop)]
 enum Stop {
     /// Its answer is found.
     Found(Answer),

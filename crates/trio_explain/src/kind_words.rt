@@ -105,15 +105,19 @@ fn put_name(out: &mut Vec<u8>, source: Source<'_>, token: usize) -> Result<(), A
     let name = source.word(token);
     match source.declared(name) {
         Some(found) if found.class == Class::Item => put_item(out, source, token, found.token),
-        Some(found) if found.class != Class::Word => put_all(
-            out,
-            &["`", name, "` is ", class_words(found.class), ", and has no value"],
-        ),
+        Some(found) if found.class != Class::Word => put_no_value(out, name, found.class),
         _ if source.arguments(token) > 0 => {
             put_all(out, &["`", name, "` is no item, and takes no arguments"])
         }
         _ => put_term(out, source, token),
     }
+}
+
+/// A name of what has no value.
+fn put_no_value(out: &mut Vec<u8>, name: &str, class: Class) -> Result<(), AllocError> {
+    put_all(out, &["`", name, "` is "])?;
+    put(out, class_words(class))?;
+    put(out, ", and has no value")
 }
 
 /// An item that is read with another number of arguments, or where none is read.

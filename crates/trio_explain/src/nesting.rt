@@ -3,7 +3,7 @@ use crate::source::{Class, Source};
 use trio_text::{Reserved, Symbol, TokenKind};
 
 /// The bracket round a token.
-#[derive(Clone, Copy, Debug)]
+#[derive(Clone, Copy)]
 pub struct Nest {
     /// The token that opens it.
     pub opening: usize,
@@ -12,7 +12,7 @@ pub struct Nest {
 }
 
 /// What a term stands in that reads no item.
-#[derive(Clone, Copy, Debug)]
+#[derive(Clone, Copy)]
 pub enum Asked {
     /// The argument of this number, from 1, of the item named at this token.
     Argument(usize, u64),
@@ -21,7 +21,7 @@ pub enum Asked {
 }
 
 /// What kind of value a term has.
-#[derive(Clone, Copy, Debug)]
+#[derive(Clone, Copy)]
 pub enum Sort<'a> {
     Number,
     Truth,

@@ -3,14 +3,14 @@ use crate::source::Source;
 use trio_text::{Reserved, Symbol, Token, TokenKind};
 
 /// The tokens of a line: the first, and the one behind the last.
-#[derive(Clone, Copy, Debug)]
+#[derive(Clone, Copy)]
 pub struct Line {
     pub first: usize,
     pub end: usize,
 }
 
 /// What may stand next in a line.
-#[derive(Clone, Copy, Debug, PartialEq, Eq)]
+#[derive(Clone, Copy, PartialEq, Eq)]
 enum Next {
     /// The item's name.
     Item,

@@ -11,7 +11,7 @@ pub struct Source<'a> {
 }
 
 /// What a name was declared as.
-#[derive(Clone, Copy, Debug, PartialEq, Eq)]
+#[derive(Clone, Copy, PartialEq, Eq)]
 pub enum Class {
     Domain,
     Word,
@@ -21,7 +21,7 @@ pub enum Class {
 }
 
 /// The token that declares a name, and what it declares it as.
-#[derive(Clone, Copy, Debug, PartialEq, Eq)]
+#[derive(Clone, Copy)]
 pub struct Declared {
     pub token: usize,
     pub class: Class,

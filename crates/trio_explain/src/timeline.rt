@@ -15,7 +15,7 @@ const MOST_NAME: usize = 30;
 const MOST_VALUE: usize = 12;
 
 /// A row of a history: its name, its item's number, and the number of its first cell.
-#[derive(Debug, Drop)]
+#[derive(Drop)]
 pub struct Row {
     pub name: Name,
     pub item: u32,
@@ -23,7 +23,7 @@ pub struct Row {
 }
 
 /// What is drawn of a history: which instants, and how wide names and values stand.
-#[derive(Clone, Copy, Debug)]
+#[derive(Clone, Copy)]
 pub struct Window {
     pub first: usize,
     pub count: usize,

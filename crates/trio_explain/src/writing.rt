@@ -1,9 +1,13 @@
 //! Words and numbers put behind a text.
+ghost use Rattle.std.specs.Prelude.{◌≡◌, ◌++◌, decimal, OnOk};
+
 use itoa::Buffer;
 use std::alloc::AllocError;
 
 /// Puts a text behind another.
-pub fn put(out: &mut Vec<u8>, words: &str) -> Result<(), AllocError> {
+pub fn put(out: &mut Vec<u8>, words: &str) -> Result<(), AllocError>
+    ensures { OnOk result (out.new.items ≡ out.old.items ++ words.now) }
+{
     out.extend_from_slice(words.as_bytes())
 }
 
@@ -16,7 +20,9 @@ pub fn put_all(out: &mut Vec<u8>, pieces: &[&str]) -> Result<(), AllocError> {
 }
 
 /// Puts a number behind a text.
-pub fn put_number(out: &mut Vec<u8>, number: u64) -> Result<(), AllocError> {
+pub fn put_number(out: &mut Vec<u8>, number: u64) -> Result<(), AllocError>
+    ensures { OnOk result (out.new.items ≡ out.old.items ++ decimal number) }
+{
     let mut digits = Buffer::new();
     put(out, digits.format(number))
 }
@@ -27,7 +33,9 @@ pub fn put_counted(
     before: &str,
     number: u64,
     behind: &str,
-) -> Result<(), AllocError> {
+) -> Result<(), AllocError>
+    ensures { OnOk result (out.new.items ≡ out.old.items ++ before.now ++ decimal number ++ behind.now) }
+{
     put(out, before)?;
     put_number(out, number)?;
     put(out, behind)
