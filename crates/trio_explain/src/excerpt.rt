@@ -11,7 +11,7 @@ use std::alloc::AllocError;
 
 /// Puts `FILE:LINE:COLUMN: ` for the byte of this number.
 pub fn put_place(out: &mut Vec<u8>, source: Source<'_>, byte: usize) -> Result<(), AllocError>
-    ensures { OnOk result (out.new.items ≡ out.old.items ++ place_words source.file.now source.text.now byte) }
+    ensures { OnOk result (out.new.items ≡ out.old.items ++ place_words source.entry.file.now source.entry.text.now byte) }
 {
     let place = place_of(source.text, byte);
     put(out, source.file)?;
@@ -28,8 +28,8 @@ pub fn put_line_and_column(
     source: Source<'_>,
     byte: usize,
 ) -> Result<(), AllocError>
-    ensures { OnOk result (out.new.items ≡ out.old.items ++ codes "line " ++ decimal (line_behind (take byte source.text.now))
-        ++ codes ", column " ++ decimal (column_behind (take byte source.text.now))) }
+    ensures { OnOk result (out.new.items ≡ out.old.items ++ codes "line " ++ decimal (line_behind (take byte source.entry.text.now))
+        ++ codes ", column " ++ decimal (column_behind (take byte source.entry.text.now))) }
 {
     let place = place_of(source.text, byte);
     put(out, "line ")?;

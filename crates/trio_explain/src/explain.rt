@@ -1,5 +1,6 @@
 //! What is said of a command: a text for people, and the status with which `trio` ends.
 ghost use Rattle.std.specs.Prelude.{◌≡◌, length, IfOk};
+ghost use Rattle.trio_types.specs.Cells.{IsTable};
 ghost use Rattle.trio_types.specs.Verdict.{world_of};
 ghost use Rattle.history_table.specs.Fitting.{IsGiven};
 
@@ -22,11 +23,17 @@ use trio_types::{List, Spec, cell_count};
 
 /// The statuses, as those of `trio`.
 const DONE: u8 = 0;
+
 const FALSE: u8 = 1;
+
 const USAGE: u8 = 2;
+
 const REFUSED: u8 = 4;
+
 const READ_FAULT: u8 = 5;
+
 const WRITE_FAULT: u8 = 6;
+
 pub const MEMORY: u8 = 7;
 
 /// A status and what is said with it.
@@ -118,7 +125,11 @@ fn load_text<F: Shelf>(
     name: &str,
     is_spec: bool,
 ) -> Result<Vec<u8>, Stop> {
-    let most = if is_spec { MOST_SPEC_BYTES } else { MOST_HISTORY_BYTES };
+    let most = if is_spec {
+        MOST_SPEC_BYTES
+    } else {
+        MOST_HISTORY_BYTES
+    };
     let mut bytes = Vec::new(alloc);
     match shelf.fetch(name, most, &mut bytes) {
         Ok(()) => Ok(bytes),
@@ -229,12 +240,7 @@ fn put_missing(
 }
 
 /// Puts the name of the row of this number.
-fn put_row_name(
-    alloc: Global,
-    out: &mut Vec<u8>,
-    spec: &Spec,
-    row: u32,
-) -> Result<(), AllocError> {
+fn put_row_name(alloc: Global, out: &mut Vec<u8>, spec: &Spec, row: u32) -> Result<(), AllocError> {
     match rows(alloc, spec)?.as_slice().get(row as usize) {
         Some(found) => put(out, found.name.as_str()),
         None => Ok(()),
@@ -252,16 +258,29 @@ fn judged(
     requires { IsGiven (world_of spec.now) given.now }
 {
     let mut table = blank_table(alloc, cell_count(spec))?;
-    if let Err(cell) = given.whole(&mut table) {
-        return unknown(alloc, spec, history_name, cell);
+    match given.whole(&mut table) {
+        Ok(()) => verdict_on(alloc, source, spec, &table, history_name),
+        Err(cell) => unknown(alloc, spec, history_name, cell),
     }
-    match check(alloc, spec, &table)? {
+}
+
+/// What is said of the verdict on a table.
+fn verdict_on(
+    alloc: Global,
+    source: Source<'_>,
+    spec: &Spec,
+    table: &Table,
+    history_name: &str,
+) -> Result<Answer, Stop>
+    requires { IsTable (world_of spec.now) table.now }
+{
+    match check(alloc, spec, table)? {
         Verdict::True => said(
             alloc,
             DONE,
             &[source.file, " is true in ", history_name, "\n"],
         ),
-        Verdict::False(number, instant) => false_in(alloc, source, spec, &table, number, instant),
+        Verdict::False(number, instant) => false_in(alloc, source, spec, table, number, instant),
     }
 }
 
@@ -280,13 +299,21 @@ fn blank_table(alloc: Global, cells: u32) -> Result<Table, AllocError>
 
 fn unknown(alloc: Global, spec: &Spec, history_name: &str, cell: u32) -> Result<Answer, Stop> {
     let mut text = Vec::new(alloc);
-    let (row, instant) = match (cell.checked_div(spec.instants), cell.checked_rem(spec.instants)) {
+    let (row, instant) = match (
+        cell.checked_div(spec.instants),
+        cell.checked_rem(spec.instants),
+    ) {
         (Some(row), Some(instant)) => (row, instant),
         _ => (0, 0),
     };
     put_all(&mut text, &[history_name, ": the value of `"])?;
     put_row_name(alloc, &mut text, spec, row)?;
-    put_counted(&mut text, "` at instant ", u64::from(instant), " is not known, and `check` needs every value\n")?;
+    put_counted(
+        &mut text,
+        "` at instant ",
+        u64::from(instant),
+        " is not known, and `check` needs every value\n",
+    )?;
     Ok(Answer {
         status: REFUSED,
         text,

@@ -4,10 +4,10 @@ use crate::row_form::Line;
 use crate::source::Source;
 use crate::spec_words::{put_found, put_lex};
 use crate::writing::{put, put_all, put_counted};
+use history_table::HistFault;
 use itoa::Buffer;
 use std::alloc::AllocError;
 use trio_types::{Domain, DomainKind, Item, Name, Spec};
-use history_table::HistFault;
 
 /// Puts the place of a fault, a sentence on it, and the line of the text with a mark under it. A missing row is said elsewhere.
 pub fn put_history_fault(
@@ -48,7 +48,10 @@ fn put_no_row(out: &mut Vec<u8>, source: Source<'_>, line: Line) -> Result<(), A
     } else {
         put(out, "the line ends too early")?;
     }
-    put(out, "; a row is an item, arguments in `(` and `)` if it has any, `:`, and a value for each instant\n")?;
+    put(
+        out,
+        "; a row is an item, arguments in `(` and `)` if it has any, `:`, and a value for each instant\n",
+    )?;
     put_excerpt(out, source.text, byte)
 }
 
@@ -115,14 +118,22 @@ fn domain_name(domain: &Domain) -> &str {
 
 /// The item of this name.
 fn item_named<'a>(spec: &'a Spec, name: &str) -> Option<&'a Item> {
-    spec.items.as_slice().iter().find(|item| item.name.as_str() == name)
+    spec.items
+        .as_slice()
+        .iter()
+        .find(|item| item.name.as_str() == name)
 }
 
 fn put_row_twice(out: &mut Vec<u8>, source: Source<'_>, line: Line) -> Result<(), AllocError> {
     let byte = source.start(line.first);
     put_place(out, source, byte)?;
     match source.same_row_before(line) {
-        Some(token) => put_counted(out, "this row stands already in line ", source.line_of(token), "\n")?,
+        Some(token) => put_counted(
+            out,
+            "this row stands already in line ",
+            source.line_of(token),
+            "\n",
+        )?,
         None => put(out, "this row stands already in an earlier line\n")?,
     }
     put_excerpt(out, source.text, byte)
@@ -137,7 +148,12 @@ fn put_length(
     let instants = u64::from(spec.instants);
     let byte = byte_in(source, line, source.value(line, instants.saturating_add(1)));
     put_place(out, source, byte)?;
-    put_counted(out, "the row has ", source.values(line), " values, and time has ")?;
+    put_counted(
+        out,
+        "the row has ",
+        source.values(line),
+        " values, and time has ",
+    )?;
     put_counted(out, "", instants, " instants\n")?;
     put_excerpt(out, source.text, byte)
 }
@@ -186,7 +202,10 @@ fn put_kind_values(out: &mut Vec<u8>, kind: &DomainKind) -> Result<(), AllocErro
 fn put_range(out: &mut Vec<u8>, low: i64, high: i64) -> Result<(), AllocError> {
     let mut low_digits = Buffer::new();
     let mut high_digits = Buffer::new();
-    put_all(out, &[low_digits.format(low), " to ", high_digits.format(high)])
+    put_all(
+        out,
+        &[low_digits.format(low), " to ", high_digits.format(high)],
+    )
 }
 
 fn put_words(out: &mut Vec<u8>, words: &[Name]) -> Result<(), AllocError> {

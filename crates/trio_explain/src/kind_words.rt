@@ -158,7 +158,10 @@ fn put_asked(out: &mut Vec<u8>, source: Source<'_>, asked: Asked) -> Result<(), 
 fn put_term(out: &mut Vec<u8>, source: Source<'_>, token: usize) -> Result<(), AllocError> {
     let part = source.sort_of_part(token);
     if is_part(source, token) && !matches!(part, Sort::Number) {
-        put(out, "a part of a sum or product is to be a number, and this is ")?;
+        put(
+            out,
+            "a part of a sum or product is to be a number, and this is ",
+        )?;
         return put_sort(out, part);
     }
     put_whole_term(out, source, token)
@@ -167,7 +170,8 @@ fn put_term(out: &mut Vec<u8>, source: Source<'_>, token: usize) -> Result<(), A
 /// Whether what begins at this token stands beside `+`, `-` or `*`.
 fn is_part(source: Source<'_>, token: usize) -> bool {
     !source.is_arithmetic(token)
-        && (source.is_arithmetic(token.saturating_sub(1)) || source.is_arithmetic(source.behind(token)))
+        && (source.is_arithmetic(token.saturating_sub(1))
+            || source.is_arithmetic(source.behind(token)))
 }
 
 /// A term that is no part of another.
@@ -190,7 +194,10 @@ fn put_argument(
     put_asked(out, source, Asked::Argument(item, number))?;
     put(out, " is to be ")?;
     match source.declared(source.word(item)) {
-        Some(found) => put_sort(out, source.sort_of_ref(source.argument_ref(found.token, number))),
+        Some(found) => put_sort(
+            out,
+            source.sort_of_ref(source.argument_ref(found.token, number)),
+        ),
         None => put_sort(out, Sort::Untold),
     }
 }

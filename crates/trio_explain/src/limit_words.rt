@@ -26,10 +26,12 @@ pub fn put_limit(
 fn counted(which: Which) -> &'static str {
     match which {
         Which::Items => "the number of items is ",
-        Which::Cells => "the number of cells, one for each item, tuple of arguments and instant, is ",
+        Which::Cells =>
+            "the number of cells, one for each item, tuple of arguments and instant, is ",
         Which::Sizes => "the number of values of all cells together is ",
         Which::Bound => "the greatest number that a term can reach is ",
-        Which::Instances => "the number of instances of formulas, over all values and instants, is ",
+        Which::Instances =>
+            "the number of instances of formulas, over all values and instants, is ",
         Which::Nest => "the number of brackets that are open at once in the canonical text is ",
     }
 }
@@ -48,8 +50,22 @@ fn limit(which: Which) -> u64 {
 /// Puts the sentence on a file that is longer than a specification's may be, or a history's.
 pub fn put_too_long(out: &mut Vec<u8>, file: &str, is_spec: bool) -> Result<(), AllocError> {
     put(out, file)?;
-    put(out, if is_spec { ": a specification" } else { ": a history" })?;
+    put(
+        out,
+        if is_spec {
+            ": a specification"
+        } else {
+            ": a history"
+        },
+    )?;
     put(out, " has at most ")?;
-    put_number(out, if is_spec { MOST_SPEC_BYTES } else { MOST_HISTORY_BYTES })?;
+    put_number(
+        out,
+        if is_spec {
+            MOST_SPEC_BYTES
+        } else {
+            MOST_HISTORY_BYTES
+        },
+    )?;
     put(out, " bytes, and this file is longer\n")
 }

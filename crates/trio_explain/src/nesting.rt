@@ -187,7 +187,9 @@ impl<'a> Source<'a> {
             Some(found) if found.class == Class::Item => {
                 self.sort_of_ref(self.value_ref(found.token))
             }
-            Some(found) if found.class == Class::Word => Sort::Words(self.domain_of_word(found.token)),
+            Some(found) if found.class == Class::Word => Sort::Words(self.domain_of_word(
+                found.token,
+            )),
             Some(_) => Sort::Untold,
             None => match self.variable_before(token, name) {
                 Some(variable) => self.sort_of_ref(variable.saturating_add(2)),

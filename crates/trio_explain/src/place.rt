@@ -62,8 +62,5 @@ fn last_line_length(text: &[u8]) -> usize
     ensures count { result ≡ length (take_while (λ b. not (b == 10)) (reverse text.now)) }
     ensures few { result ≤ length text.now }
 {
-    text.iter()
-        .rev()
-        .take_while(|byte| **byte != b'\n')
-        .count()
+    text.iter().rev().take_while(|byte| **byte != b'\n').count()
 }

@@ -101,7 +101,11 @@ impl<'a> Source<'a> {
 
     /// The text from the one token to the end of the other.
     fn spelled_up_to(self, first: usize, last: usize) -> &'a str {
-        spelled(self.text, self.start(first), self.end_before(last.saturating_add(1)))
+        spelled(
+            self.text,
+            self.start(first),
+            self.end_before(last.saturating_add(1)),
+        )
     }
 
     /// The declaration of a name as a domain, word, item, axiom or goal, at the first token that is one.
@@ -109,7 +113,9 @@ impl<'a> Source<'a> {
         let mut in_braces = false;
         for token in 0..self.tokens.len() {
             in_braces = self.braces_open(token, in_braces);
-            if let Some(class) = self.class_at(token, in_braces) && self.word(token) == name {
+            if let Some(class) = self.class_at(token, in_braces)
+                && self.word(token) == name
+            {
                 return Some(Declared { token, class });
             }
         }

@@ -41,7 +41,12 @@ pub fn put_lex(out: &mut Vec<u8>, source: Source<'_>, byte: usize) -> Result<(),
         out.push(found)?;
         put(out, "` begins no token\n")?;
     } else {
-        put_counted(out, "the byte ", u64::from(found), " begins no token outside a comment\n")?;
+        put_counted(
+            out,
+            "the byte ",
+            u64::from(found),
+            " begins no token outside a comment\n",
+        )?;
     }
     put_excerpt(out, source.text, byte)
 }
@@ -82,7 +87,10 @@ fn put_sentence(
 
 fn put_syntax(out: &mut Vec<u8>, source: Source<'_>, token: usize) -> Result<(), AllocError> {
     if token >= source.tokens.len() {
-        return put(out, "the text ends here, and its last statement is not complete");
+        return put(
+            out,
+            "the text ends here, and its last statement is not complete",
+        );
     }
     put_found(out, source, token)?;
     put(out, " cannot stand here")

@@ -11,7 +11,9 @@ use trio_types::{DomainKind, Item, Name, Spec, cell_count, cell_parts};
 
 /// The most bytes of a line of the picture, of a row's name and of a value.
 const MOST_COLUMNS: usize = 100;
+
 const MOST_NAME: usize = 30;
+
 const MOST_VALUE: usize = 12;
 
 /// A row of a history: its name, its item's number, and the number of its first cell.
@@ -222,7 +224,12 @@ fn put_row(
     put_padded(out, row.name.as_str().as_bytes(), window.name_width)?;
     if let Some(kind) = kind_of_row(spec, row) {
         let first = (row.cell as usize).saturating_add(window.first);
-        put_values(out, kind, shown(table, first, window.count), window.value_width)?;
+        put_values(
+            out,
+            kind,
+            shown(table, first, window.count),
+            window.value_width,
+        )?;
     }
     put(out, "\n")
 }

@@ -26,7 +26,14 @@ pub fn put_false(
     put_excerpt(out, source.text, byte)?;
     let read = items_read(alloc, source, spec, name)?;
     put(out, "\n")?;
-    put_timeline(out, spec, table, rows(alloc, spec)?.as_slice(), read.as_slice(), instant)
+    put_timeline(
+        out,
+        spec,
+        table,
+        rows(alloc, spec)?.as_slice(),
+        read.as_slice(),
+        instant,
+    )
 }
 
 /// For each item whether the statement in which this token stands reads it from here on.

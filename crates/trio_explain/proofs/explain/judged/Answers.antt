@@ -3,6 +3,6 @@ use Rattle.trio_types.specs.Verdict.{world_of}
 use Rattle.history_table.proofs.Tables.{table_fits}
 use Rattle.trio_explain.proofs.explain.judged.Goals as goal
 
-pub check-requires : goal.check-requires
-check-requires c =
-    table_fits (world_of c.args.spec.now) c.args.given.now c.whole.new.into c.requires c.in-Ok-whole.ensures.ok
+pub verdict_on-requires : goal.verdict_on-requires
+verdict_on-requires c =
+    table_fits (world_of c.args.spec.now) c.args.given.now c.whole.new.into c.requires c.in-Ok.ensures.ok
