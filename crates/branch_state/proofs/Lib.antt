@@ -8,5 +8,5 @@ mod Listed
 pub mod SetsFit
 mod Rooted
 mod Singled
-mod CodeReads
 mod HoldsInTable
+pub mod CodeReads

@@ -15,7 +15,7 @@ mod roots;
 mod sets;
 
 pub use branch::{Branch, Branches, Want, Wants};
-pub use copying::{copy, copy_sets, copy_want, copy_wants};
+pub use copying::{copy, copy_want, copy_wants};
 pub use env::Env;
 pub use equal::same;
 pub use equal_problems::same_problem;

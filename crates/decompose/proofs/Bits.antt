@@ -15,7 +15,7 @@ use Rattle.branch_state.specs.Branches.{single_set}
 use Rattle.branch_state.proofs.SetsFit.{single_is_set}
 
 -- a number is at least the value of each of its bits
-bit_below : (set v : ℕ) → bit_at set v ≡ 1 → 2 ^ v ≤ set
+pub bit_below : (set v : ℕ) → bit_at set v ≡ 1 → 2 ^ v ≤ set
 bit_below set zero one = omega (arith, one, bit_at_lowest set)
 bit_below set (suc v) one = omega (arith, bit_below (set / 2) v (sym (bit_at-suc set v) ∙ one), pow-suc 2 v)
 

@@ -10,7 +10,7 @@ use Rattle.branch_state.specs.Weight.{want_weight}
 use Rattle.branch_state.proofs.Counted.{count_some}
 use Rattle.decompose.specs.Rule.{Fate, Refuted, Becomes, Parts, Cuts, Ruled, fate, unwanted, settle_by, settle, wants_weight, settled}
 use Rattle.decompose.specs.Law.{EnoughLaw}
-use Rattle.decompose.proofs.Fates.{fate_law}
+use Rattle.decompose.proofs.Atoms.{fate_law}
 use Rattle.decompose.proofs.Rows.{FateLaw}
 
 -- of a first want: it weighs something, and what takes its place weighs less

@@ -5,8 +5,12 @@ pub mod Truths
 pub mod Rows
 pub mod Undecided
 pub mod ReadOrder
-pub mod Fates
+pub mod Atoms
 pub mod OnlyTable
 pub mod Settling
 pub mod Lawful
 pub mod Enough
+mod Leasts
+mod Readings
+mod Wanted
+mod Kept

@@ -28,19 +28,19 @@ use Rattle.trio_core.proofs.TermsFit.{each_arg}
 use Rattle.decompose.proofs.Undecided.{nothing-several, one-several}
 use Rattle.decompose.specs.Reads.{Reading, Read3, value_of_read, cell_number, cells_of_read, term_read, part_read, reading}
 
-abbrev part_reading : World → SignedTerm → Read3
+abbrev pub part_reading : World → SignedTerm → Read3
 part_reading w = fold-SignedTerm Read3 Read3 (term_read w) part_read
 
 reading_at : (w : World) {f : Term} (x : Term-F Term SignedTerm) → roll-Term x ≡ f → reading w f ≡ term_read w (map-Term Term SignedTerm Read3 Read3 (reading w) (part_reading w) x)
 unfolding reading
 reading_at w x is = ap (reading w) (sym is) ∙ fold-roll-Term Read3 Read3 (term_read w) part_read x
 
-part_reading_is : (w : World) (p : SignedTerm) → part_reading w p ≡ part_read (record { minus = (out-SignedTerm p).minus; term = reading w (term_of p) })
+pub part_reading_is : (w : World) (p : SignedTerm) → part_reading w p ≡ part_read (record { minus = (out-SignedTerm p).minus; term = reading w (term_of p) })
 unfolding reading
 part_reading_is w p = fold_out-SignedTerm Read3 Read3 (term_read w) part_read p
 
 -- what is read of a term by its form
-at_form : (w : World) (e : List ℤ) (look : Cell → Known ℤ) (i : ℕ) {f : Term} (x : Term-F Term SignedTerm) → roll-Term x ≡ f →
+pub at_form : (w : World) (e : List ℤ) (look : Cell → Known ℤ) (i : ℕ) {f : Term} (x : Term-F Term SignedTerm) → roll-Term x ≡ f →
     reading w f e look i ≡ term_read w (map-Term Term SignedTerm Read3 Read3 (reading w) (part_reading w) x) e look i
 at_form w e look i x is = ap (λ r. r e look i) (reading_at w x is)
 
@@ -174,3 +174,11 @@ module _ (w : World) (e : List ℤ) (look : Cell → Known ℤ) (i : ℕ) (q : �
   -- a term of which several values are known reads a cell that passes
   pub reads_open : (x : Term) (reads : Bool) → reaches w x (length e) reads ≡ true → value3 w x e look i ≡ Several → list_any q (reading w x e look i).cells ≡ true
   reads_open x reads reach is = (reads_right x).open_ reads reach is
+
+  each_right : (xs : List Term) → Each ReadsRight xs
+  each_right [] = tt
+  each_right (x ∷ xs) = (reads_right x, each_right xs)
+
+  -- the values of arguments are as in their evaluation
+  pub args_read : (args : List Term) → map (λ a. (a e look i).value) (map (reading w) args) ≡ map (λ a. value3 w a e look i) args
+  args_read args = arg_values_are args (each_right args)

@@ -28,7 +28,7 @@ use Rattle.branch_state.proofs.Represented.{reps_split, reps_same, reps_none, re
 use Rattle.decompose.specs.Reads.{members_of, members_at, is_undecided, first_undecided, all_cells}
 use Rattle.decompose.specs.Rule.{Fate, Refuted, Becomes, Parts, Cuts, Ruled, Closed, Whole, Two, fate, least_table, cut_or_whole, unwanted, settle_by, settle, wants_weight}
 use Rattle.decompose.specs.Law.{AreHalves, KeepsLaw}
-use Rattle.decompose.proofs.Fates.{fate_law}
+use Rattle.decompose.proofs.Atoms.{fate_law}
 use Rattle.decompose.proofs.Cutting.{both_left, parts_of_zip, cut_law}
 use Rattle.decompose.proofs.OnlyTable.{Only, only_table}
 use Rattle.decompose.proofs.Rows.{all_hold, Replaces, Halves, FateLaw}

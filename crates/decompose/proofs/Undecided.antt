@@ -14,13 +14,13 @@ use Rattle.trio_core.proofs.Looks.{same_values}
 use Rattle.decompose.specs.Reads.{members_of, members_at, is_undecided, cell_number}
 
 -- the first cell that passes, and its set
-record Place (p : Cell → Bool) (cells : List Cell) (sets : List ℕ) (set : ℕ) : Type 0 where
-  cell : Cell
-  passes : p cell ≡ true
-  inside : position_or_len p cells < length cells
-  at : slice_get (zip cells sets) (position_or_len p cells) ≡ Some (cell, set)
+pub record Place (p : Cell → Bool) (cells : List Cell) (sets : List ℕ) (set : ℕ) : Type 0 where
+  pub cell : Cell
+  pub passes : p cell ≡ true
+  pub inside : position_or_len p cells < length cells
+  pub at : slice_get (zip cells sets) (position_or_len p cells) ≡ Some (cell, set)
 
-place_of : (p : Cell → Bool) (cells : List Cell) (sets : List ℕ) (set : ℕ) → option_map (λ q. q.1) (find (λ q. p q.0) (zip cells sets)) ≡ Some set → Place p cells sets set
+pub place_of : (p : Cell → Bool) (cells : List Cell) (sets : List ℕ) (set : ℕ) → option_map (λ q. q.1) (find (λ q. p q.0) (zip cells sets)) ≡ Some set → Place p cells sets set
 place_of p [] sets set is = absurd (none-some set is)
 place_of p (c ∷ cells) [] set is = absurd (none-some set is)
 place_of p (c ∷ cells) (s ∷ sets) set is = at_head (p c) refl (λ more. place_of p cells sets set more)

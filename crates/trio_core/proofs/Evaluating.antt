@@ -1,5 +1,6 @@
 -- Three-valued truth node by node, value by value and instant by instant.
-use Rattle.std.proofs.Common.{◌≡◌, ◌≢◌, ℕ, ◌+◌, ◌<◌, ◌≤◌, ℤ, pos, negsuc, neg_ℤ, ◌+ℤ◌, ◌-ℤ◌, ◌≤ℤ◌, ◌<ℤ◌, true, int_le, to_z, of_z, w64, List, [], ◌∷◌, ◌++◌, Some, length, take, drop, slice_get, refl, sym, ap, ◌∙◌, arith}
+use Rattle.std.proofs.Common.{◌≡◌, ◌≢◌, ℕ, ◌+◌, ◌^◌, ◌<◌, ◌≤◌, nat_abs, Fits, w32, T, rules, ℤ, pos, negsuc, neg_ℤ, ◌+ℤ◌, ◌-ℤ◌, ◌≤ℤ◌, ◌<ℤ◌, true, int_le, to_z, of_z, w64, List, [], ◌∷◌, ◌++◌, Some, length, take, drop, slice_get, refl, sym, ap, ◌∙◌, arith}
+use lib.Signed.{non_neg}
 use Rattle.std.specs.Ordering.{int_eq}
 use Rattle.std.proofs.lemmas.Bool.{and_parts, false_from_ne_true}
 use Rattle.std.proofs.lemmas.Bool.Decides.{Decides-int_eq}
@@ -125,19 +126,32 @@ eval_dist w nodes a from p x d e sets i at before is =
     ∙ ap (λ k. at_distance3 w i k (part_truth3 (truths3_from w [] (take a nodes)) p e (known_at w sets))) is
     ∙ ap (λ f. any3 (λ j. f e (known_at w sets) j) (at_distance w i (Some d))) (part_truth3_at w nodes p a before (slice_get_within nodes a (node.Dist p x) at))
 
--- the instant at a distance
-pub any_at : (w : World) (i : ℕ) (d : ℤ) (j : ℕ) (p : ℕ → Three) → pos j ≡ pos i +ℤ d → j < w.instants → any3 p (at_distance w i (Some d)) ≡ p j
+-- the instant at a distance, where it is inside time
+pub only_at : (w : World) (i : ℕ) (d : ℤ) (j : ℕ) → pos j ≡ pos i +ℤ d → j < w.instants → at_distance w i (Some d) ≡ j ∷ []
 unfolding instants_of
-any_at w i d j p is inside =
-    ap (any3 p) (filter_one (is_at_distance i (Some d)) 0 w.instants j (omega arith) (omega (arith, inside)) ((Decides-int_eq (pos j) (pos i +ℤ d)).1 is)
-    (λ u other. false_from_ne_true (int_eq (pos u) (pos i +ℤ d)) (λ h. let e = (Decides-int_eq (pos u) (pos i +ℤ d)).0 h in other (omega (arith, ints, e, is)))))
-    ∙ or_false (p j)
+only_at w i d j is inside =
+    filter_one (is_at_distance i (Some d)) 0 w.instants j (omega arith) (omega (arith, inside)) ((Decides-int_eq (pos j) (pos i +ℤ d)).1 is)
+    (λ u other. false_from_ne_true (int_eq (pos u) (pos i +ℤ d)) (λ h. let e = (Decides-int_eq (pos u) (pos i +ℤ d)).0 h in other (omega (arith, ints, e, is))))
+
+pub nowhere_at : (w : World) (i : ℕ) (d : ℤ) → ((j : ℕ) → j < w.instants → pos j ≢ pos i +ℤ d) → at_distance w i (Some d) ≡ []
+unfolding instants_of
+nowhere_at w i d other =
+    filter_none (is_at_distance i (Some d)) 0 w.instants
+    (λ u from to. false_from_ne_true (int_eq (pos u) (pos i +ℤ d)) (λ h. other u (omega (arith, to)) ((Decides-int_eq (pos u) (pos i +ℤ d)).0 h)))
+
+pub any_at : (w : World) (i : ℕ) (d : ℤ) (j : ℕ) (p : ℕ → Three) → pos j ≡ pos i +ℤ d → j < w.instants → any3 p (at_distance w i (Some d)) ≡ p j
+any_at w i d j p is inside = ap (any3 p) (only_at w i d j is inside) ∙ or_false (p j)
 
 pub none_at : (w : World) (i : ℕ) (d : ℤ) (p : ℕ → Three) → ((j : ℕ) → j < w.instants → pos j ≢ pos i +ℤ d) → any3 p (at_distance w i (Some d)) ≡ three.False
-unfolding instants_of
-none_at w i d p other =
-    ap (any3 p) (filter_none (is_at_distance i (Some d)) 0 w.instants
-    (λ u from to. false_from_ne_true (int_eq (pos u) (pos i +ℤ d)) (λ h. other u (omega (arith, to)) ((Decides-int_eq (pos u) (pos i +ℤ d)).0 h))))
+none_at w i d p other = ap (any3 p) (nowhere_at w i d other)
+
+-- a target inside time as a number
+pub absolute : (z : ℤ) → pos 0 ≤ℤ z → z ≡ pos (nat_abs z)
+absolute (pos n) from = refl
+absolute (negsuc n) from = absurd (omega (arith, ints, from))
+
+pub castable : (z : ℤ) (n : ℕ) → z ≡ pos n → n < 2 ^ 32 → T (non_neg z) × Fits w32 (nat_abs z)
+castable z n is small = rw is (tt, search rules)
 
 -- the values of an Exists
 pub record Written (z : ℤ) : Type 0 where

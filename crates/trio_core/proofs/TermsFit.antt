@@ -19,7 +19,7 @@ use Rattle.trio_types.specs.Kinds.{is_arity}
 use Rattle.trio_types.specs.Bounds.{Bound, bounded, most_of, domain_bound, item_bound}
 use Rattle.trio_types.proofs.Domains.{from_first, at_integers}
 use Rattle.trio_types.proofs.Integers.{Decides-int_le}
-use Rattle.trio_types.proofs.Lists.{each_of, map-map}
+use Rattle.trio_types.proofs.Lists.{each_of, map-map, map_some}
 use Rattle.trio_types.proofs.CellNumbers.{values_from_item}
 use Rattle.trio_types.proofs.Reading.{greatest_above, domain_above, constant_value}
 use Rattle.trio_core.specs.declared.nodes.Known.{Known}
@@ -322,12 +322,28 @@ each_arg w e look i (a ∷ args) all =
 abbrev pub arg_values : World → List ℤ → (Cell → Known ℤ) → ℕ → List Term → List (Option ℤ)
 arg_values w e look i args = map (λ a. value_if_known (value3 w a e look i)) args
 
-pub read3_is : (w : World) (sets : List ℕ) (n : ℕ) (args : List Term) (e : List ℤ) (i : ℕ) → TermFits w (term.Read n args) e → (item : Item) (o : Option (List ℕ)) → slice_get w.items n ≡ Some item →
-    indexes w.domains item.args (arg_values w e (known_at w sets) i args) ≡ o →
-    value3 w (term.Read n args) e (known_at w sets) i ≡ known_of_cell (known_at w sets) (option_map (λ vs. the_cell n vs i) o)
-read3_is w sets n args e i fits item o at is =
+pub args_known : (w : World) (look : Cell → Known ℤ) (n : ℕ) (args : List Term) (e : List ℤ) (i : ℕ) → TermFits w (term.Read n args) e →
+    known_all (map (λ a. value3 w a e look i) args) ≡ One (arg_values w e look i args)
+args_known w look n args e i fits = all_one (λ a. value3 w a e look i) args (each_arg w e look i args (read_parts w n args e fits).1)
+
+-- the cell that is read, by the indexes of the arguments
+pub cell_by_indexes : (w : World) (n : ℕ) (item : Item) (zs : List (Option ℤ)) (i : ℕ) (o : Option (List ℕ)) → slice_get w.items n ≡ Some item → indexes w.domains item.args zs ≡ o →
+    read_cell w n zs i ≡ option_map (λ vs. the_cell n vs i) o
+cell_by_indexes w n item zs i o at is = ap (λ o. cell_of_item w n o zs i) at ∙ ap (option_map (λ vs. the_cell n vs i)) is
+
+-- which is of the item
+pub item_of_cell : (w : World) (n : ℕ) (zs : List (Option ℤ)) (i : ℕ) (cell : Cell) → read_cell w n zs i ≡ Some cell → cell.item ≡ n
+item_of_cell w n zs i cell is = by_item (slice_get w.items n) is
+  where
+    by_item : (o : Option Item) → cell_of_item w n o zs i ≡ Some cell → cell.item ≡ n
+    by_item None made = absurd (none-some cell made)
+    by_item (Some item) made = let r = map_some (λ vs. the_cell n vs i) (indexes w.domains item.args zs) cell made in ap (λ (c : Cell). c.item) (sym r.2)
+
+-- what is known of a read, by its cell
+pub read3_by_cell : (w : World) (sets : List ℕ) (n : ℕ) (args : List Term) (e : List ℤ) (i : ℕ) → TermFits w (term.Read n args) e → (o : Option Cell) →
+    read_cell w n (arg_values w e (known_at w sets) i args) i ≡ o → value3 w (term.Read n args) e (known_at w sets) i ≡ known_of_cell (known_at w sets) o
+read3_by_cell w sets n args e i fits o is =
     let look = known_at w sets in
     value3-Read w n args e look i
-    ∙ ap (known_then (λ zs. known_of_cell look (read_cell w n zs i))) (all_one (λ a. value3 w a e look i) args (each_arg w e look i args (read_parts w n args e fits).1))
-    ∙ ap (λ o. known_of_cell look (cell_of_item w n o (arg_values w e look i args) i)) at
-    ∙ ap (λ o. known_of_cell look (option_map (λ vs. the_cell n vs i) o)) is
+    ∙ ap (known_then (λ zs. known_of_cell look (read_cell w n zs i))) (args_known w look n args e i fits)
+    ∙ ap (known_of_cell look) is

@@ -1,8 +1,10 @@
 -- When terms may be evaluated, and what the evaluation of sets tells.
-use Rattle.std.specs.Prelude.{◌≡◌, ℕ, ◌<◌, ◌≤◌, ℤ, ◌≤ℤ◌, nat_abs, Bool, true, List, [], ◌∷◌, ◌++◌, Option, None, Some, length}
+use Rattle.std.specs.Prelude.{◌≡◌, ℕ, ◌<◌, ◌≤◌, ℤ, ◌≤ℤ◌, nat_abs, Bool, true, List, [], ◌∷◌, ◌++◌, Option, None, Some, length, slice_get}
 use Rattle.trio_base.specs.declared.limits.TheConstants.{GREATEST_BOUND}
 use Rattle.trio_types.specs.declared.formula.Term.{Term}
 use Rattle.trio_types.specs.World.{World}
+use Rattle.trio_types.specs.Cells.{Cell, cells_of}
+use Rattle.trio_types.specs.Values.{read_cell}
 use Rattle.trio_types.specs.WellFormed.{is_written}
 use Rattle.trio_core.specs.declared.nodes.Known.{Known}
 use Rattle.trio_core.specs.declared.nodes.Known.TheVariants.{One}
@@ -18,6 +20,11 @@ pub record TermFits (w : World) (x : Term) (values : List ℤ) : Type 0 where
   pub reads : Bool
   pub fits : term_fits w ranges reads x ≡ true
   pub values_in : lie_in values ranges ≡ true
+
+-- the number of the cell that an item is read from at these values of its arguments, where there is one
+abbrev pub IsCellRead : World → ℕ → List (Option ℤ) → ℕ → Option ℕ → Type 0
+IsCellRead w item values i None = read_cell w item values i ≡ None
+IsCellRead w item values i (Some number) = (cell : Cell) × (read_cell w item values i ≡ Some cell) × (slice_get (cells_of w) number ≡ Some cell)
 
 -- the only member of a set, or that there are several
 abbrev pub IsSole : List ℕ → Option ℕ → Type 0

@@ -1,5 +1,5 @@
 //! Sets of values, one for each cell.
-ghost use Rattle.std.specs.Prelude.{◌≡◌, [], ◌∷◌, ◌++◌, ◌<◌, length, slice_get, slice_set, OnOk, OnErr, IfErr, MatchOption};
+ghost use Rattle.std.specs.Prelude.{◌≡◌, [], ◌∷◌, ◌++◌, ◌<◌, length, slice_get, slice_set, OnOk, OnErr, IfOk, IfErr, MatchOption};
 
 use std::alloc::{AllocError, Global};
 use std::marker::Model;
@@ -36,6 +36,14 @@ impl Doms {
         ensures back { IfErr result (λ refused. refused.0 ≡ value) }
     {
         self.words.push(value)
+    }
+
+    /// A copy; only want of memory refuses it.
+    pub fn copy(&self, alloc: Global) -> Result<Doms, AllocError>
+        ensures { IfOk result (λ made. made ≡ self.now) }
+    {
+        let words = self.words.copy(alloc)?;
+        Ok(Doms { words })
     }
 
     /// How many sets there are.

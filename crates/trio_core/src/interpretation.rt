@@ -3,7 +3,7 @@ use crate::nodes::Core;
 
 /// A core, sets that fit it, and the values of the variables, those of the outermost Exists first.
 #[derive(Clone, Copy)]
-pub(crate) struct Interpretation<'a> {
+pub struct Interpretation<'a> {
     pub core: &'a Core,
     pub doms: &'a [u64],
     pub values: &'a [i64],

@@ -110,7 +110,7 @@ fn stands(rel: Rel, left: i64, right: i64) -> bool
 }
 
 /// The only member of a set that is not empty, where it has no other.
-pub(crate) fn sole_member(set: u64) -> Option<u32>
+pub fn sole_member(set: u64) -> Option<u32>
     requires { 0 < set }
     ensures { (size : ℕ) → IsTrue (is_set size set) → IsSole (members size set) result }
 {

@@ -11,6 +11,9 @@ mod terms;
 mod truth;
 
 pub use doms::Doms;
+pub use interpretation::Interpretation;
+pub use kleene::sole_member;
 pub use nodes::{Core, Known, MOST_ROUND, Node, Nodes, Root, Roots, Three};
+pub use terms::{cell_read, term_value};
 pub use trio_types::{Domains, Items, List, Rel, Term};
 pub use truth::{spec_truth3, truth3, truth3_in};

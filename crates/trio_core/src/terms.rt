@@ -1,10 +1,11 @@
 //! What sets tell of the values of terms.
-ghost use Rattle.std.specs.Prelude.{◌≡◌, ◌<◌, length, slice_get, Some};
+ghost use Rattle.std.specs.Prelude.{◌≡◌, ◌<◌, ℤ, List, Option, map, length, slice_get, Some};
 ghost use Rattle.trio_types.specs.declared.formula.Term.TheVariants as term_of;
 ghost use Rattle.trio_core.specs.Sets.{AreSets};
-ghost use Rattle.trio_core.specs.Three.{known_at, value3};
+ghost use Rattle.trio_core.specs.declared.nodes.Known.TheVariants.{One};
+ghost use Rattle.trio_core.specs.Three.{known_all, known_at, value3};
 ghost use Rattle.trio_core.specs.Stands.{world_of_core};
-ghost use Rattle.trio_core.specs.Fits.{TermFits};
+ghost use Rattle.trio_core.specs.Fits.{TermFits, IsCellRead};
 
 use crate::interpretation::Interpretation;
 use crate::kleene::{plus, signed, sole_member, times};
@@ -13,7 +14,7 @@ use trio_types::{SignedTerm, Term};
 
 /// What is known of the value of a term at an instant.
 #[cycle(value)]
-pub(crate) fn value_of(under: Interpretation<'_>, term: &Term, instant: u32) -> Known<i64>
+pub fn term_value(under: Interpretation<'_>, term: &Term, instant: u32) -> Known<i64>
     requires sets_fit { AreSets (world_of_core under.core.now) under.doms.now }
     requires term_fits { TermFits (world_of_core under.core.now) term.now under.values.now }
     requires instant_in { instant < under.core.now.instants }
@@ -25,7 +26,7 @@ pub(crate) fn value_of(under: Interpretation<'_>, term: &Term, instant: u32) -> 
         Term::Var(level) => Known::One(under.values[*level as usize]),
         Term::Read(item, args) => read(under, *item, args.as_slice(), instant),
         Term::Sum(parts) => sum(under, parts.as_slice(), instant),
-        Term::Times(number, factor) => times(*number, value_of(under, factor.get(), instant)),
+        Term::Times(number, factor) => times(*number, term_value(under, factor.get(), instant)),
     }
 }
 
@@ -37,24 +38,36 @@ fn read(under: Interpretation<'_>, item: u32, args: &[Term], instant: u32) -> Kn
     requires instant_in { instant < under.core.now.instants }
     ensures { result ≡ value3 (world_of_core under.entry.core.now) (term_of.Read item args.now) under.entry.values.now (known_at (world_of_core under.entry.core.now) under.entry.doms.now) instant }
 {
-    let declared = under.core.declarations();
-    let asked = under.core.items.get(item as usize);
-    let domains = asked.args.as_slice();
-    let mut indexes = [0; 4];
-    for place in 0..args.len() {
-        let Known::One(value) = value_of(under, &args[place], instant) else {
-            unreachable!()
-        };
-        let Some(index) = declared.index_of(domains[place], value) else {
-            return Known::Nothing;
-        };
-        indexes[place] = index;
-    }
-    let cell = declared.cell_of(item, &indexes[..args.len()], instant);
+    let Some(cell) = cell_read(under, item, args, instant) else {
+        return Known::Nothing;
+    };
+    let domain = under.core.items.get(item as usize).value;
     match sole_member(set_of(under.doms, cell)) {
-        Some(index) => Known::One(declared.value_at(asked.value, index)),
+        Some(index) => Known::One(under.core.declarations().value_at(domain, index)),
         None => Known::Several,
     }
+}
+
+/// The number of the cell that an item is read from at its arguments; there is none where one is outside its domain.
+#[cycle(value)]
+pub fn cell_read(under: Interpretation<'_>, item: u32, args: &[Term], instant: u32) -> Option<u32>
+    requires sets_fit { AreSets (world_of_core under.core.now) under.doms.now }
+    requires term_fits { TermFits (world_of_core under.core.now) (term_of.Read item args.now) under.values.now }
+    requires instant_in { instant < under.core.now.instants }
+    ensures { (zs : List (Option ℤ)) → known_all (map (λ a. value3 (world_of_core under.entry.core.now) a under.entry.values.now (known_at (world_of_core under.entry.core.now) under.entry.doms.now) instant) args.now) ≡ One zs
+        → IsCellRead (world_of_core under.entry.core.now) item zs instant result }
+{
+    let declared = under.core.declarations();
+    let domains = under.core.items.get(item as usize).args.as_slice();
+    let mut indexes = [0; 4];
+    for place in 0..args.len() {
+        let Known::One(value) = term_value(under, &args[place], instant) else {
+            unreachable!()
+        };
+        let index = declared.index_of(domains[place], value)?;
+        indexes[place] = index;
+    }
+    Some(declared.cell_of(item, &indexes[..args.len()], instant))
 }
 
 /// The set of a cell.
@@ -77,7 +90,7 @@ fn sum(under: Interpretation<'_>, parts: &[SignedTerm], instant: u32) -> Known<i
     for part in parts {
         sum = plus(
             sum,
-            signed(part.minus, value_of(under, &part.term, instant)),
+            signed(part.minus, term_value(under, &part.term, instant)),
         );
     }
     sum

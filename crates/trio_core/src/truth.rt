@@ -12,7 +12,7 @@ use crate::doms::Doms;
 use crate::interpretation::Interpretation;
 use crate::kleene::{both, compare, either, opposite};
 use crate::nodes::{Core, Known, MOST_ROUND, Node, Root, Three};
-use crate::terms::value_of;
+use crate::terms::term_value;
 
 /// The three-valued truth of a node at an instant under sets of values, where an Exists ranges over its values from an index on.
 pub fn truth3(core: &Core, node: u32, from: u32, now: u32, env: &[i64], doms: &Doms) -> Three
@@ -80,8 +80,8 @@ fn node_truth(under: Interpretation<'_>, node: u32, from: u32, instant: u32) -> 
 {
     match under.core.nodes.get(node as usize) {
         Node::Atom(rel, left, right) => {
-            let left = value_of(under, left, instant);
-            let right = value_of(under, right, instant);
+            let left = term_value(under, left, instant);
+            let right = term_value(under, right, instant);
             compare(*rel, left, right)
         }
         Node::Not(part) => opposite(node_truth(under, *part, 0, instant)),
@@ -101,7 +101,7 @@ fn node_truth(under: Interpretation<'_>, node: u32, from: u32, instant: u32) -> 
         }
         Node::Exists(low, high, part) => for_some(under, *low, *high, *part, from, instant),
         Node::Dist(part, distance) => {
-            let Known::One(distance) = value_of(under, distance, instant) else {
+            let Known::One(distance) = term_value(under, distance, instant) else {
                 unreachable!()
             };
             let target = i64::from(instant) + distance;

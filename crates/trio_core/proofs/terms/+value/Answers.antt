@@ -1,5 +1,6 @@
 -- The answers to the goals of `value_of`, `read` and `sum`.
 use Rattle.std.proofs.Common.{◌≡◌, ℕ, ◌<◌, ℤ, pos, neg_ℤ, Bool, if◌then◌else◌, ◌+ℤ◌, ◌*ℤ◌, List, length, map, take, get_or, Option, None, Some, slice_get, to_z, of_z, w64, subst, refl, sym, ap, ◌∙◌, arith, rules}
+use Rattle.std.specs.ControlFlow.{continue_value}
 use Rattle.std.specs.Option.{option_map}
 use Rattle.std.proofs.lemmas.Bool.{and_parts, ltb-true}
 use Rattle.std.proofs.lemmas.Int.{ints}
@@ -13,7 +14,7 @@ use Rattle.trio_types.specs.declared.spec.Domain.{Domain}
 use Rattle.trio_types.specs.World.{World, values_in, size_of}
 use Rattle.trio_types.specs.Cells.{the_cell, cells_of, cell_size, item_takes, takes}
 use Rattle.trio_types.specs.Parts.{declarations_of}
-use Rattle.trio_types.specs.Values.{indexes, index_of}
+use Rattle.trio_types.specs.Values.{indexes, index_of, read_cell}
 use Rattle.trio_types.specs.Declarations.{declared_world}
 use Rattle.trio_types.proofs.Specs.{value_domain, few_arguments, argument_domain}
 use Rattle.trio_types.proofs.CellNumbers.{args_named, size_inside, size_from_item, values_from_item}
@@ -24,11 +25,12 @@ use Rattle.trio_core.specs.declared.nodes.Known.TheVariants.{One}
 use Rattle.trio_core.specs.Sets.{members}
 use Rattle.trio_core.specs.Three.{known_both, known_map, known_at, known_sum, value3}
 use Rattle.trio_core.specs.Stands.{world_of_core}
-use Rattle.trio_core.specs.Fits.{TermFits, IsSole}
+use Rattle.trio_core.specs.Fits.{TermFits, IsCellRead, IsSole}
+use Rattle.trio_core.proofs.KnownAt.{same_One}
 use Rattle.trio_core.proofs.Value3At.{signed_value3, value3-Number, value3-Value, value3-Var, value3-Sum, value3-Times}
 use Rattle.trio_core.proofs.KnownAt.{signed_one, value_if_known, known_sum_more}
 use Rattle.trio_core.proofs.TermsAt.{reaches-Var}
-use Rattle.trio_core.proofs.TermsFit.{term_reaches, term_near, times_part, sum_part, front_near, read_item, read_length, read_arg, arg_known, arg_values, read3_is}
+use Rattle.trio_core.proofs.TermsFit.{term_reaches, term_near, times_part, sum_part, front_near, read_item, read_length, read_arg, arg_known, arg_values, args_known, cell_by_indexes, item_of_cell, read3_by_cell}
 use Rattle.trio_core.proofs.Sole.{member_in, set_of_cell, known_single, known_several}
 use Rattle.trio_core.proofs.NodesFit.{core_formed}
 use Rattle.trio_core.proofs.terms.+value.Goals as goal
@@ -50,8 +52,8 @@ index_found given domains ds args k passed_on z o d a same is =
 abbrev signed_by : Bool → Known ℤ → Known ℤ
 signed_by minus k = if minus then known_map neg_ℤ k else k
 
-pub read-get-asked-requires : goal.read-get-asked-requires
-read-get-asked-requires t c =
+pub cell_read-get-requires : goal.cell_read-get-requires
+cell_read-get-requires t c =
     let core = c.args.under.core.now in
     let w = world_of_core core in
     let e = c.args.under.values.now in
@@ -59,8 +61,8 @@ read-get-asked-requires t c =
     let r = read_item w c.args.item c.args.args.now e fits in
     slice_get_within core.items c.args.item r.0 r.1
 
-pub read-value_of-requires : goal.read-value_of-requires
-read-value_of-requires t c =
+pub cell_read-term_value-requires : goal.cell_read-term_value-requires
+cell_read-term_value-requires t c =
     let core = c.args.under.core.now in
     let w = world_of_core core in
     let e = c.args.under.values.now in
@@ -72,8 +74,8 @@ read-value_of-requires t c =
     let at = slice_get-get_or args k x c.loop-place-test.true ∙ ap Some (sym c.index-args-place.is) in
     (search (ints, rules, the_lemmas), (c.requires.sets_fit, (read_arg w n args e fits k x at, c.requires.instant_in)))
 
-pub read-unreachable-requires : goal.read-unreachable-requires
-read-unreachable-requires t c =
+pub cell_read-unreachable-requires : goal.cell_read-unreachable-requires
+cell_read-unreachable-requires t c =
     let core = c.args.under.core.now in
     let w = world_of_core core in
     let sets = c.args.under.doms.now in
@@ -86,38 +88,38 @@ read-unreachable-requires t c =
     let x = c.index-args-place.result in
     let at = slice_get-get_or args k x c.loop-place-test.true ∙ ap Some (sym c.index-args-place.is) in
     let a = arg_known w sets n args e i fits k x at in
-    c.in_default.not-One a.0 (c.value_of.ensures ∙ a.1)
+    c.in_default.not-One a.0 (c.term_value.ensures ∙ a.1)
 
-pub read-bounds-domains-place : goal.read-bounds-domains-place
-read-bounds-domains-place t c =
+pub cell_read-bounds-domains-place : goal.cell_read-bounds-domains-place
+cell_read-bounds-domains-place t c =
     let core = c.args.under.core.now in
     let w = world_of_core core in
     let e = c.args.under.values.now in
     let fits = c.requires.term_fits in
     let args = c.args.args.now in
     let n = c.args.item in
-    let asked = c.get-asked.result.now in
-    let lengths = read_length w n args e fits asked c.get-asked.ensures in
+    let asked = c.get.result.now in
+    let lengths = read_length w n args e fits asked c.get.ensures in
     omega (arith, ap length c.as_slice-domains.ensures, lengths, c.loop-place-test.true)
 
-pub read-index_of-requires-clause-domain_in : goal.read-index_of-requires-clause-domain_in
-read-index_of-requires-clause-domain_in t c =
+pub cell_read-index_of-requires-clause-domain_in : goal.cell_read-index_of-requires-clause-domain_in
+cell_read-index_of-requires-clause-domain_in t c =
     let core = c.args.under.core.now in
     let w = world_of_core core in
     let e = c.args.under.values.now in
     let fits = c.requires.term_fits in
     let args = c.args.args.now in
     let n = c.args.item in
-    let asked = c.get-asked.result.now in
+    let asked = c.get.result.now in
     let p = declarations_of w in
     let f = core_formed core in
-    let lengths = read_length w n args e fits asked c.get-asked.ensures in
+    let lengths = read_length w n args e fits asked c.get.ensures in
     let k = c.loop-place.place in
-    let inside = size_inside core.domains asked.args k (args_named p f n asked c.get-asked.ensures) (omega (arith, lengths, c.loop-place-test.true)) in
+    let inside = size_inside core.domains asked.args k (args_named p f n asked c.get.ensures) (omega (arith, lengths, c.loop-place-test.true)) in
     omega (arith, ap (λ l. get_or l k 0) c.as_slice-domains.ensures, inside, ap length c.declarations-declared.ensures.domains)
 
-pub read-index_of-requires-clause-not_far_back : goal.read-index_of-requires-clause-not_far_back
-read-index_of-requires-clause-not_far_back t c =
+pub cell_read-index_of-requires-clause-not_far_back : goal.cell_read-index_of-requires-clause-not_far_back
+cell_read-index_of-requires-clause-not_far_back t c =
     let core = c.args.under.core.now in
     let w = world_of_core core in
     let sets = c.args.under.doms.now in
@@ -130,13 +132,13 @@ read-index_of-requires-clause-not_far_back t c =
     let x = c.index-args-place.result in
     let at = slice_get-get_or args k x c.loop-place-test.true ∙ ap Some (sym c.index-args-place.is) in
     let z = c.in-One.value in
-    let known = sym c.value_of.ensures ∙ c.in-One.is in
+    let known = sym c.term_value.ensures ∙ c.in-One.is in
     let small = term_near w sets x e i (read_arg w n args e fits k x at) z known in
     let near = near_of z small in
     omega (arith, ints, near.not_far_back, near.not_far_on)
 
-pub read-index_of-requires-clause-not_far_on : goal.read-index_of-requires-clause-not_far_on
-read-index_of-requires-clause-not_far_on t c =
+pub cell_read-index_of-requires-clause-not_far_on : goal.cell_read-index_of-requires-clause-not_far_on
+cell_read-index_of-requires-clause-not_far_on t c =
     let core = c.args.under.core.now in
     let w = world_of_core core in
     let sets = c.args.under.doms.now in
@@ -149,53 +151,28 @@ read-index_of-requires-clause-not_far_on t c =
     let x = c.index-args-place.result in
     let at = slice_get-get_or args k x c.loop-place-test.true ∙ ap Some (sym c.index-args-place.is) in
     let z = c.in-One.value in
-    let known = sym c.value_of.ensures ∙ c.in-One.is in
+    let known = sym c.term_value.ensures ∙ c.in-One.is in
     let small = term_near w sets x e i (read_arg w n args e fits k x at) z known in
     let near = near_of z small in
     omega (arith, ints, near.not_far_back, near.not_far_on)
 
-pub read-returns-in_default-index_of : goal.read-returns-in_default-index_of
-read-returns-in_default-index_of t c =
-    let core = c.args.under.core.now in
-    let w = world_of_core core in
-    let sets = c.args.under.doms.now in
-    let e = c.args.under.values.now in
-    let look = known_at w sets in
-    let i = c.args.instant in
-    let fits = c.requires.term_fits in
-    let args = c.args.args.now in
-    let n = c.args.item in
-    let asked = c.get-asked.result.now in
-    let lengths = read_length w n args e fits asked c.get-asked.ensures in
-    let k = c.loop-place.place in
-    let x = c.index-args-place.result in
-    let at = slice_get-get_or args k x c.loop-place-test.true ∙ ap Some (sym c.index-args-place.is) in
-    let z = c.in-One.value in
-    let known = sym c.value_of.ensures ∙ c.in-One.is in
-    let small = term_near w sets x e i (read_arg w n args e fits k x at) z known in
-    let zs = arg_values w e look i args in
-    let here = slice_get-map (λ a. value_if_known (value3 w a e look i)) args k ∙ ap (option_map (λ a. value_if_known (value3 w a e look i))) at ∙ ap (λ v. Some (value_if_known v)) known in
-    let ds = c.as_slice-domains.result.now in
-    let none = index_found c.declarations-declared.result.domains.now core.domains ds asked.args k _ z c.index_of.result c.declarations-declared.ensures.domains c.as_slice-domains.ensures (sym (passed z small)) c.index_of.ensures ∙ c.in_default-index_of.is in
-    sym (read3_is w sets n args e i fits asked None c.get-asked.ensures (no_index_at core.domains asked.args zs k z (omega (arith, lengths, c.loop-place-test.true)) here none))
-
-pub read-bounds-indexes-place : goal.read-bounds-indexes-place
-read-bounds-indexes-place t c =
+pub cell_read-bounds-indexes-place : goal.cell_read-bounds-indexes-place
+cell_read-bounds-indexes-place t c =
     let core = c.args.under.core.now in
     let w = world_of_core core in
     let e = c.args.under.values.now in
     let fits = c.requires.term_fits in
     let args = c.args.args.now in
     let n = c.args.item in
-    let asked = c.get-asked.result.now in
+    let asked = c.get.result.now in
     let p = declarations_of w in
     let f = core_formed core in
-    let lengths = read_length w n args e fits asked c.get-asked.ensures in
-    let few = few_arguments p f n asked c.get-asked.ensures in
+    let lengths = read_length w n args e fits asked c.get.ensures in
+    let few = few_arguments p f n asked c.get.ensures in
     omega (arith, lengths, few, c.loop-place-test.true, c.loop-place.invariant.four)
 
-pub read-loop-place-preserved : goal.read-loop-place-preserved
-read-loop-place-preserved t c =
+pub cell_read-loop-place-preserved : goal.cell_read-loop-place-preserved
+cell_read-loop-place-preserved t c =
     let core = c.args.under.core.now in
     let w = world_of_core core in
     let sets = c.args.under.doms.now in
@@ -205,68 +182,68 @@ read-loop-place-preserved t c =
     let fits = c.requires.term_fits in
     let args = c.args.args.now in
     let n = c.args.item in
-    let asked = c.get-asked.result.now in
+    let asked = c.get.result.now in
     let p = declarations_of w in
     let f = core_formed core in
-    let lengths = read_length w n args e fits asked c.get-asked.ensures in
+    let lengths = read_length w n args e fits asked c.get.ensures in
     let k = c.loop-place.place in
     let x = c.index-args-place.result in
     let at = slice_get-get_or args k x c.loop-place-test.true ∙ ap Some (sym c.index-args-place.is) in
     let z = c.in-One.value in
-    let known = sym c.value_of.ensures ∙ c.in-One.is in
+    let known = sym c.term_value.ensures ∙ c.in-One.is in
     let small = term_near w sets x e i (read_arg w n args e fits k x at) z known in
     let zs = arg_values w e look i args in
     let here = slice_get-map (λ a. value_if_known (value3 w a e look i)) args k ∙ ap (option_map (λ a. value_if_known (value3 w a e look i))) at ∙ ap (λ v. Some (value_if_known v)) known in
-    let few = few_arguments p f n asked c.get-asked.ensures in
-    let v = c.in-Some.index in
+    let few = few_arguments p f n asked c.get.ensures in
+    let v = c.in_ok-index.index in
     let ds = c.as_slice-domains.result.now in
     let idx = c.loop-place.indexes in
-    let is = index_found c.declarations-declared.result.domains.now core.domains ds ds k _ z c.index_of.result c.declarations-declared.ensures.domains refl (sym (passed z small)) c.index_of.ensures ∙ c.in-Some.is in
+    let is = index_found c.declarations-declared.result.domains.now core.domains ds ds k _ z c.index_of.result c.declarations-declared.ensures.domains refl (sym (passed z small)) c.index_of.ensures ∙ c.branch-index.ensures ∙ ap continue_value c.in_ok-index.is in
     record {
       told = index_more core.domains ds zs k idx z v (omega (arith, ap length c.as_slice-domains.ensures, lengths, c.loop-place-test.true))
           (omega (arith, c.loop-place.invariant.four, few, lengths, c.loop-place-test.true)) here is c.loop-place.invariant.told;
       four = length-set idx k v ∙ c.loop-place.invariant.four;
     }
 
-pub read-slice_bounds-indexes-end : goal.read-slice_bounds-indexes-end
-read-slice_bounds-indexes-end t c =
+pub cell_read-slice_bounds-indexes-end : goal.cell_read-slice_bounds-indexes-end
+cell_read-slice_bounds-indexes-end t c =
     let core = c.args.under.core.now in
     let w = world_of_core core in
     let e = c.args.under.values.now in
     let fits = c.requires.term_fits in
     let args = c.args.args.now in
     let n = c.args.item in
-    let asked = c.get-asked.result.now in
+    let asked = c.get.result.now in
     let p = declarations_of w in
     let f = core_formed core in
-    let lengths = read_length w n args e fits asked c.get-asked.ensures in
-    let few = few_arguments p f n asked c.get-asked.ensures in
+    let lengths = read_length w n args e fits asked c.get.ensures in
+    let few = few_arguments p f n asked c.get.ensures in
     omega (arith, lengths, few, c.loop-place.invariant.four)
 
-pub read-slice_bounds-cell_of-end : goal.read-slice_bounds-cell_of-end
-read-slice_bounds-cell_of-end t c =
+pub cell_read-slice_bounds-cell_of-end : goal.cell_read-slice_bounds-cell_of-end
+cell_read-slice_bounds-cell_of-end t c =
     let core = c.args.under.core.now in
     let w = world_of_core core in
     let e = c.args.under.values.now in
     let fits = c.requires.term_fits in
     let args = c.args.args.now in
     let n = c.args.item in
-    let asked = c.get-asked.result.now in
+    let asked = c.get.result.now in
     let p = declarations_of w in
     let f = core_formed core in
-    let lengths = read_length w n args e fits asked c.get-asked.ensures in
-    let few = few_arguments p f n asked c.get-asked.ensures in
+    let lengths = read_length w n args e fits asked c.get.ensures in
+    let few = few_arguments p f n asked c.get.ensures in
     sym (length-take-le (length args) c.loop-place.indexes (omega (arith, lengths, few, c.loop-place.invariant.four)))
 
-pub read-cell_of-cell-requires-clause-item_in : goal.read-cell_of-cell-requires-clause-item_in
-read-cell_of-cell-requires-clause-item_in t c =
+pub cell_read-cell_of-requires-clause-item_in : goal.cell_read-cell_of-requires-clause-item_in
+cell_read-cell_of-requires-clause-item_in t c =
     let core = c.args.under.core.now in
     let n = c.args.item in
-    let asked = c.get-asked.result.now in
-    omega (arith, slice_get_within core.items n asked c.get-asked.ensures, ap length c.declarations-declared.ensures.items)
+    let asked = c.get.result.now in
+    omega (arith, slice_get_within core.items n asked c.get.ensures, ap length c.declarations-declared.ensures.items)
 
-pub read-cell_of-cell-requires-clause-args_in : goal.read-cell_of-cell-requires-clause-args_in
-read-cell_of-cell-requires-clause-args_in t c =
+pub cell_read-cell_of-requires-clause-args_in : goal.cell_read-cell_of-requires-clause-args_in
+cell_read-cell_of-requires-clause-args_in t c =
     let core = c.args.under.core.now in
     let w = world_of_core core in
     let sets = c.args.under.doms.now in
@@ -276,10 +253,10 @@ read-cell_of-cell-requires-clause-args_in t c =
     let fits = c.requires.term_fits in
     let args = c.args.args.now in
     let n = c.args.item in
-    let asked = c.get-asked.result.now in
+    let asked = c.get.result.now in
     let p = declarations_of w in
     let f = core_formed core in
-    let lengths = read_length w n args e fits asked c.get-asked.ensures in
+    let lengths = read_length w n args e fits asked c.get.ensures in
     let k = c.loop-place.place in
     let idx = c.loop-place.indexes in
     let vs = take (length args) idx in
@@ -291,8 +268,85 @@ read-cell_of-cell-requires-clause-args_in t c =
     ∙ ap (λ n. Some (take n idx)) end in
     let same = world_is (declared_world c.declarations-declared.result) w c.declarations-declared.ensures.instants c.declarations-declared.ensures.domains c.declarations-declared.ensures.items in
     let there : (k d : ℕ) → slice_get asked.args k ≡ Some d → d < length core.domains = λ k d is.
-    let domain = argument_domain p f n asked c.get-asked.ensures k d is in slice_get_within core.domains d domain.0 domain.1 in
-    ap (λ w. takes w n vs) same ∙ ap (λ o. item_takes w o vs) c.get-asked.ensures ∙ indexes_fit core.domains asked.args zs vs there found
+    let domain = argument_domain p f n asked c.get.ensures k d is in slice_get_within core.domains d domain.0 domain.1 in
+    ap (λ w. takes w n vs) same ∙ ap (λ o. item_takes w o vs) c.get.ensures ∙ indexes_fit core.domains asked.args zs vs there found
+
+pub cell_read-returns-in_err-index : goal.cell_read-returns-in_err-index
+cell_read-returns-in_err-index t c =
+    let core = c.args.under.core.now in
+    let w = world_of_core core in
+    let sets = c.args.under.doms.now in
+    let e = c.args.under.values.now in
+    let look = known_at w sets in
+    let i = c.args.instant in
+    let fits = c.requires.term_fits in
+    let args = c.args.args.now in
+    let n = c.args.item in
+    let asked = c.get.result.now in
+    let lengths = read_length w n args e fits asked c.get.ensures in
+    let k = c.loop-place.place in
+    let x = c.index-args-place.result in
+    let at = slice_get-get_or args k x c.loop-place-test.true ∙ ap Some (sym c.index-args-place.is) in
+    let z = c.in-One.value in
+    let known = sym c.term_value.ensures ∙ c.in-One.is in
+    let small = term_near w sets x e i (read_arg w n args e fits k x at) z known in
+    let zs = arg_values w e look i args in
+    let here = slice_get-map (λ a. value_if_known (value3 w a e look i)) args k ∙ ap (option_map (λ a. value_if_known (value3 w a e look i))) at ∙ ap (λ v. Some (value_if_known v)) known in
+    let ds = c.as_slice-domains.result.now in
+    let none = index_found c.declarations-declared.result.domains.now core.domains ds asked.args k _ z c.index_of.result c.declarations-declared.ensures.domains c.as_slice-domains.ensures (sym (passed z small)) c.index_of.ensures ∙ c.branch-index.ensures ∙ ap continue_value c.in_err-index.is in
+    let is = cell_by_indexes w n asked zs i None c.get.ensures (no_index_at core.domains asked.args zs k z (omega (arith, lengths, c.loop-place-test.true)) here none) in
+    λ values known_args.
+    subst (IsCellRead w n values i) (sym c.from_residual.ensures) (ap (λ zs. read_cell w n zs i) (sym (same_One zs values (sym (args_known w look n args e i fits) ∙ known_args))) ∙ is)
+
+pub cell_read-returns : goal.cell_read-returns
+cell_read-returns t c =
+    let core = c.args.under.core.now in
+    let w = world_of_core core in
+    let sets = c.args.under.doms.now in
+    let e = c.args.under.values.now in
+    let look = known_at w sets in
+    let i = c.args.instant in
+    let fits = c.requires.term_fits in
+    let args = c.args.args.now in
+    let n = c.args.item in
+    let asked = c.get.result.now in
+    let lengths = read_length w n args e fits asked c.get.ensures in
+    let k = c.loop-place.place in
+    let idx = c.loop-place.indexes in
+    let vs = take (length args) idx in
+    let zs = arg_values w e look i args in
+    let ds = c.as_slice-domains.result.now in
+    let end : k ≡ length args = omega (arith, c.loop-place-test.false, c.loop-place.auto.place-end) in
+    let found = ap (λ l. indexes core.domains l zs) (sym c.as_slice-domains.ensures)
+    ∙ all_indexes core.domains ds zs k idx (omega (arith, ap length c.as_slice-domains.ensures, lengths, end)) (omega (arith, length-map args (λ a. value_if_known (value3 w a e look i)), end)) c.loop-place.invariant.told
+    ∙ ap (λ n. Some (take n idx)) end in
+    let same = world_is (declared_world c.declarations-declared.result) w c.declarations-declared.ensures.instants c.declarations-declared.ensures.domains c.declarations-declared.ensures.items in
+    let m = c.cell_of.result in
+    let place = ap (λ w. slice_get (cells_of w) m) (sym same) ∙ c.cell_of.ensures in
+    let is = cell_by_indexes w n asked zs i (Some vs) c.get.ensures found in
+    λ values known_args.
+    (the_cell n vs i, ap (λ zs. read_cell w n zs i) (sym (same_One zs values (sym (args_known w look n args e i fits) ∙ known_args))) ∙ is, place)
+
+pub read-returns-in_default : goal.read-returns-in_default
+read-returns-in_default t c =
+    let core = c.args.under.core.now in
+    let w = world_of_core core in
+    let sets = c.args.under.doms.now in
+    let e = c.args.under.values.now in
+    let look = known_at w sets in
+    let i = c.args.instant in
+    let fits = c.requires.term_fits in
+    let args = c.args.args.now in
+    let n = c.args.item in
+    let told = c.cell_read.ensures (arg_values w e look i args) (args_known w look n args e i fits) in
+    sym (read3_by_cell w sets n args e i fits None (subst (IsCellRead w n (arg_values w e look i args) i) c.in_default.is told))
+
+pub read-get-requires : goal.read-get-requires
+read-get-requires t c =
+    let core = c.args.under.core.now in
+    let w = world_of_core core in
+    let r = read_item w c.args.item c.args.args.now c.args.under.values.now c.requires.term_fits in
+    slice_get_within core.items c.args.item r.0 r.1
 
 pub read-set_of-requires : goal.read-set_of-requires
 read-set_of-requires t c =
@@ -305,22 +359,11 @@ read-set_of-requires t c =
     let fits = c.requires.term_fits in
     let args = c.args.args.now in
     let n = c.args.item in
-    let asked = c.get-asked.result.now in
-    let lengths = read_length w n args e fits asked c.get-asked.ensures in
-    let k = c.loop-place.place in
-    let idx = c.loop-place.indexes in
-    let vs = take (length args) idx in
-    let zs = arg_values w e look i args in
-    let ds = c.as_slice-domains.result.now in
-    let end : k ≡ length args = omega (arith, c.loop-place-test.false, c.loop-place.auto.place-end) in
-    let found = ap (λ l. indexes core.domains l zs) (sym c.as_slice-domains.ensures)
-    ∙ all_indexes core.domains ds zs k idx (omega (arith, ap length c.as_slice-domains.ensures, lengths, end)) (omega (arith, length-map args (λ a. value_if_known (value3 w a e look i)), end)) c.loop-place.invariant.told
-    ∙ ap (λ n. Some (take n idx)) end in
-    let same = world_is (declared_world c.declarations-declared.result) w c.declarations-declared.ensures.instants c.declarations-declared.ensures.domains c.declarations-declared.ensures.items in
-    let cell = the_cell n vs i in
-    let m = c.cell_of-cell.result in
-    let place = ap (λ w. slice_get (cells_of w) m) (sym same) ∙ c.cell_of-cell.ensures in
-    omega (arith, c.requires.sets_fit.whole, slice_get_within (cells_of w) m cell place)
+    let told = c.cell_read.ensures (arg_values w e look i args) (args_known w look n args e i fits) in
+    let there = subst (IsCellRead w n (arg_values w e look i args) i) c.in-Some.is told in
+    let m = c.in-Some.cell in
+    let cell = there.0 in
+    omega (arith, c.requires.sets_fit.whole, slice_get_within (cells_of w) m cell there.2)
 
 pub read-sole_member-requires : goal.read-sole_member-requires
 read-sole_member-requires t c =
@@ -333,23 +376,12 @@ read-sole_member-requires t c =
     let fits = c.requires.term_fits in
     let args = c.args.args.now in
     let n = c.args.item in
-    let asked = c.get-asked.result.now in
-    let lengths = read_length w n args e fits asked c.get-asked.ensures in
-    let k = c.loop-place.place in
-    let idx = c.loop-place.indexes in
-    let vs = take (length args) idx in
-    let zs = arg_values w e look i args in
-    let ds = c.as_slice-domains.result.now in
-    let end : k ≡ length args = omega (arith, c.loop-place-test.false, c.loop-place.auto.place-end) in
-    let found = ap (λ l. indexes core.domains l zs) (sym c.as_slice-domains.ensures)
-    ∙ all_indexes core.domains ds zs k idx (omega (arith, ap length c.as_slice-domains.ensures, lengths, end)) (omega (arith, length-map args (λ a. value_if_known (value3 w a e look i)), end)) c.loop-place.invariant.told
-    ∙ ap (λ n. Some (take n idx)) end in
-    let same = world_is (declared_world c.declarations-declared.result) w c.declarations-declared.ensures.instants c.declarations-declared.ensures.domains c.declarations-declared.ensures.items in
-    let cell = the_cell n vs i in
-    let m = c.cell_of-cell.result in
-    let place = ap (λ w. slice_get (cells_of w) m) (sym same) ∙ c.cell_of-cell.ensures in
+    let told = c.cell_read.ensures (arg_values w e look i args) (args_known w look n args e i fits) in
+    let there = subst (IsCellRead w n (arg_values w e look i args) i) c.in-Some.is told in
+    let m = c.in-Some.cell in
+    let cell = there.0 in
     let set = c.set_of.result in
-    let is = set_of_cell w sets m set cell c.requires.sets_fit place c.set_of.ensures in
+    let is = set_of_cell w sets m set cell c.requires.sets_fit there.2 c.set_of.ensures in
     ltb-true 0 set (and_parts _ _ is).0
 
 pub read-value_at-requires-clause-domain_in : goal.read-value_at-requires-clause-domain_in
@@ -357,11 +389,11 @@ read-value_at-requires-clause-domain_in t c =
     let core = c.args.under.core.now in
     let w = world_of_core core in
     let n = c.args.item in
-    let asked = c.get-asked.result.now in
+    let asked = c.get.result.now in
     let p = declarations_of w in
     let f = core_formed core in
-    let domain = value_domain p f n asked c.get-asked.ensures in
-    omega (arith, slice_get_within core.domains asked.value domain.0 domain.1, ap length c.declarations-declared.ensures.domains)
+    let domain = value_domain p f n asked c.get.ensures in
+    omega (arith, slice_get_within core.domains asked.value domain.0 domain.1, ap length c.declarations.ensures.domains)
 
 pub read-value_at-requires-clause-index_in : goal.read-value_at-requires-clause-index_in
 read-value_at-requires-clause-index_in t c =
@@ -374,27 +406,18 @@ read-value_at-requires-clause-index_in t c =
     let fits = c.requires.term_fits in
     let args = c.args.args.now in
     let n = c.args.item in
-    let asked = c.get-asked.result.now in
-    let lengths = read_length w n args e fits asked c.get-asked.ensures in
-    let k = c.loop-place.place in
-    let idx = c.loop-place.indexes in
-    let vs = take (length args) idx in
-    let zs = arg_values w e look i args in
-    let ds = c.as_slice-domains.result.now in
-    let end : k ≡ length args = omega (arith, c.loop-place-test.false, c.loop-place.auto.place-end) in
-    let found = ap (λ l. indexes core.domains l zs) (sym c.as_slice-domains.ensures)
-    ∙ all_indexes core.domains ds zs k idx (omega (arith, ap length c.as_slice-domains.ensures, lengths, end)) (omega (arith, length-map args (λ a. value_if_known (value3 w a e look i)), end)) c.loop-place.invariant.told
-    ∙ ap (λ n. Some (take n idx)) end in
-    let same = world_is (declared_world c.declarations-declared.result) w c.declarations-declared.ensures.instants c.declarations-declared.ensures.domains c.declarations-declared.ensures.items in
-    let cell = the_cell n vs i in
-    let m = c.cell_of-cell.result in
-    let place = ap (λ w. slice_get (cells_of w) m) (sym same) ∙ c.cell_of-cell.ensures in
+    let told = c.cell_read.ensures (arg_values w e look i args) (args_known w look n args e i fits) in
+    let there = subst (IsCellRead w n (arg_values w e look i args) i) c.in-Some.is told in
+    let m = c.in-Some.cell in
+    let cell = there.0 in
     let set = c.set_of.result in
-    let is = set_of_cell w sets m set cell c.requires.sets_fit place c.set_of.ensures in
+    let is = set_of_cell w sets m set cell c.requires.sets_fit there.2 c.set_of.ensures in
+    let asked = c.get.result.now in
     let v = c.in-Some-sole_member.index in
     let alone = subst (IsSole (members (cell_size w cell) set)) c.in-Some-sole_member.is (c.sole_member.ensures (cell_size w cell) is) in
     let below = (member_in (cell_size w cell) set 0 v (ap (λ ms. slice_get ms 0) alone)).1 in
-    omega (arith, below, size_from_item w cell asked c.get-asked.ensures, ap (λ ds. size_of ds asked.value) c.declarations-declared.ensures.domains)
+    let of_item = item_of_cell w n (arg_values w e look i args) i cell there.1 in
+    omega (arith, below, size_from_item w cell asked (ap (slice_get core.items) of_item ∙ c.get.ensures), ap (λ ds. size_of ds asked.value) c.declarations.ensures.domains)
 
 pub read-returns-in-Some-sole_member : goal.read-returns-in-Some-sole_member
 read-returns-in-Some-sole_member t c =
@@ -407,28 +430,19 @@ read-returns-in-Some-sole_member t c =
     let fits = c.requires.term_fits in
     let args = c.args.args.now in
     let n = c.args.item in
-    let asked = c.get-asked.result.now in
-    let lengths = read_length w n args e fits asked c.get-asked.ensures in
-    let k = c.loop-place.place in
-    let idx = c.loop-place.indexes in
-    let vs = take (length args) idx in
-    let zs = arg_values w e look i args in
-    let ds = c.as_slice-domains.result.now in
-    let end : k ≡ length args = omega (arith, c.loop-place-test.false, c.loop-place.auto.place-end) in
-    let found = ap (λ l. indexes core.domains l zs) (sym c.as_slice-domains.ensures)
-    ∙ all_indexes core.domains ds zs k idx (omega (arith, ap length c.as_slice-domains.ensures, lengths, end)) (omega (arith, length-map args (λ a. value_if_known (value3 w a e look i)), end)) c.loop-place.invariant.told
-    ∙ ap (λ n. Some (take n idx)) end in
-    let same = world_is (declared_world c.declarations-declared.result) w c.declarations-declared.ensures.instants c.declarations-declared.ensures.domains c.declarations-declared.ensures.items in
-    let cell = the_cell n vs i in
-    let m = c.cell_of-cell.result in
-    let place = ap (λ w. slice_get (cells_of w) m) (sym same) ∙ c.cell_of-cell.ensures in
+    let told = c.cell_read.ensures (arg_values w e look i args) (args_known w look n args e i fits) in
+    let there = subst (IsCellRead w n (arg_values w e look i args) i) c.in-Some.is told in
+    let m = c.in-Some.cell in
+    let cell = there.0 in
     let set = c.set_of.result in
-    let is = set_of_cell w sets m set cell c.requires.sets_fit place c.set_of.ensures in
+    let is = set_of_cell w sets m set cell c.requires.sets_fit there.2 c.set_of.ensures in
+    let asked = c.get.result.now in
     let v = c.in-Some-sole_member.index in
     let alone = subst (IsSole (members (cell_size w cell) set)) c.in-Some-sole_member.is (c.sole_member.ensures (cell_size w cell) is) in
     let z = c.value_at.result in
-    let value = ap (λ zs. slice_get zs v) (values_from_item w cell asked c.get-asked.ensures) ∙ ap (λ ds. slice_get (values_in ds asked.value) v) (sym c.declarations-declared.ensures.domains) ∙ c.value_at.ensures in
-    let known = read3_is w sets n args e i fits asked (Some vs) c.get-asked.ensures found ∙ known_single w sets m set v cell z c.requires.sets_fit place c.set_of.ensures alone value in
+    let of_item = item_of_cell w n (arg_values w e look i args) i cell there.1 in
+    let value = ap (λ zs. slice_get zs v) (values_from_item w cell asked (ap (slice_get core.items) of_item ∙ c.get.ensures)) ∙ ap (λ ds. slice_get (values_in ds asked.value) v) (sym c.declarations.ensures.domains) ∙ c.value_at.ensures in
+    let known = read3_by_cell w sets n args e i fits (Some cell) there.1 ∙ known_single w sets m set v cell z c.requires.sets_fit there.2 c.set_of.ensures alone value in
     sym (known ∙ ap One (passed z (term_near w sets (term.Read n args) e i fits z known)))
 
 pub read-returns-in-None : goal.read-returns-in-None
@@ -442,28 +456,17 @@ read-returns-in-None t c =
     let fits = c.requires.term_fits in
     let args = c.args.args.now in
     let n = c.args.item in
-    let asked = c.get-asked.result.now in
-    let lengths = read_length w n args e fits asked c.get-asked.ensures in
-    let k = c.loop-place.place in
-    let idx = c.loop-place.indexes in
-    let vs = take (length args) idx in
-    let zs = arg_values w e look i args in
-    let ds = c.as_slice-domains.result.now in
-    let end : k ≡ length args = omega (arith, c.loop-place-test.false, c.loop-place.auto.place-end) in
-    let found = ap (λ l. indexes core.domains l zs) (sym c.as_slice-domains.ensures)
-    ∙ all_indexes core.domains ds zs k idx (omega (arith, ap length c.as_slice-domains.ensures, lengths, end)) (omega (arith, length-map args (λ a. value_if_known (value3 w a e look i)), end)) c.loop-place.invariant.told
-    ∙ ap (λ n. Some (take n idx)) end in
-    let same = world_is (declared_world c.declarations-declared.result) w c.declarations-declared.ensures.instants c.declarations-declared.ensures.domains c.declarations-declared.ensures.items in
-    let cell = the_cell n vs i in
-    let m = c.cell_of-cell.result in
-    let place = ap (λ w. slice_get (cells_of w) m) (sym same) ∙ c.cell_of-cell.ensures in
+    let told = c.cell_read.ensures (arg_values w e look i args) (args_known w look n args e i fits) in
+    let there = subst (IsCellRead w n (arg_values w e look i args) i) c.in-Some.is told in
+    let m = c.in-Some.cell in
+    let cell = there.0 in
     let set = c.set_of.result in
-    let is = set_of_cell w sets m set cell c.requires.sets_fit place c.set_of.ensures in
+    let is = set_of_cell w sets m set cell c.requires.sets_fit there.2 c.set_of.ensures in
     let two = subst (IsSole (members (cell_size w cell) set)) c.in-None.is (c.sole_member.ensures (cell_size w cell) is) in
-    sym (read3_is w sets n args e i fits asked (Some vs) c.get-asked.ensures found ∙ known_several w sets m set cell c.requires.sets_fit place c.set_of.ensures two)
+    sym (read3_by_cell w sets n args e i fits (Some cell) there.1 ∙ known_several w sets m set cell c.requires.sets_fit there.2 c.set_of.ensures two)
 
-pub sum-value_of-requires : goal.sum-value_of-requires
-sum-value_of-requires t c =
+pub sum-term_value-requires : goal.sum-term_value-requires
+sum-term_value-requires t c =
     let core = c.args.under.core.now in
     let w = world_of_core core in
     let e = c.args.under.values.now in
@@ -488,7 +491,7 @@ sum-signed-requires t c =
     let p = c.part-item.result in
     let at = slice_get-get_or parts k p c.loop-part-test.true ∙ ap Some (sym c.part-item.is) in
     let part_fits = sum_part w parts e fits k p at in
-    λ z is. term_near w sets (out-SignedTerm p).term e i part_fits z (sym c.value_of.ensures ∙ is)
+    λ z is. term_near w sets (out-SignedTerm p).term e i part_fits z (sym c.term_value.ensures ∙ is)
 
 pub sum-plus-sum-requires-clause-left_near : goal.sum-plus-sum-requires-clause-left_near
 sum-plus-sum-requires-clause-left_near t c =
@@ -516,8 +519,8 @@ sum-plus-sum-requires-clause-right_near t c =
     let at = slice_get-get_or parts k p c.loop-part-test.true ∙ ap Some (sym c.part-item.is) in
     let part_fits = sum_part w parts e fits k p at in
     λ z is.
-    let s = signed_one (out-SignedTerm p).minus c.value_of.result z (sym c.signed.ensures ∙ is) in
-    omega (arith, s.2, term_near w sets (out-SignedTerm p).term e i part_fits s.0 (sym c.value_of.ensures ∙ s.1))
+    let s = signed_one (out-SignedTerm p).minus c.term_value.result z (sym c.signed.ensures ∙ is) in
+    omega (arith, s.2, term_near w sets (out-SignedTerm p).term e i part_fits s.0 (sym c.term_value.ensures ∙ s.1))
 
 pub sum-loop-part-preserved : goal.sum-loop-part-preserved
 sum-loop-part-preserved t c =
@@ -531,7 +534,7 @@ sum-loop-part-preserved t c =
     let g : SignedTerm → Known ℤ = λ p. signed_value3 w p e look i in
     let k = c.loop-part.part-index in
     let p = c.part-item.result in
-    let part_is : c.signed.result ≡ g p = c.signed.ensures ∙ ap (signed_by (out-SignedTerm p).minus) c.value_of.ensures in
+    let part_is : c.signed.result ≡ g p = c.signed.ensures ∙ ap (signed_by (out-SignedTerm p).minus) c.term_value.ensures in
     c.plus-sum.ensures ∙ ap (λ s. known_both (λ x y. x +ℤ y) s c.signed.result) c.loop-part.invariant
     ∙ ap (known_both (λ x y. x +ℤ y) (known_sum (map g (take k parts)))) part_is ∙ sym (known_sum_more g parts k p c.loop-part-test.true c.part-item.is)
 
@@ -548,8 +551,8 @@ sum-returns t c =
     let k = c.loop-part.part-index in
     c.loop-part.invariant ∙ ap (λ l. known_sum (map g l)) (take_all k parts c.loop-part-test.false) ∙ sym (value3-Sum w parts e look i)
 
-pub value_of-bounds-under-level : goal.value_of-bounds-under-level
-value_of-bounds-under-level t c =
+pub term_value-bounds-under-level : goal.term_value-bounds-under-level
+term_value-bounds-under-level t c =
     let core = c.args.under.core.now in
     let w = world_of_core core in
     let e = c.args.under.values.now in
@@ -558,8 +561,8 @@ value_of-bounds-under-level t c =
     let whole = subst P c.in-Var.is fits in
     ltb-true c.in-Var.level (length e) (sym (reaches-Var w c.in-Var.level (length e) whole.reads) ∙ term_reaches w (term.Var c.in-Var.level) e whole)
 
-pub value_of-value_of-requires : goal.value_of-value_of-requires
-value_of-value_of-requires t c =
+pub term_value-term_value-requires : goal.term_value-term_value-requires
+term_value-term_value-requires t c =
     let core = c.args.under.core.now in
     let w = world_of_core core in
     let e = c.args.under.values.now in
@@ -571,8 +574,8 @@ value_of-value_of-requires t c =
     let part = times_part w n factor e whole in
     (search (ints, rules, the_lemmas), (c.requires.sets_fit, (subst P (sym c.get.ensures) part, c.requires.instant_in)))
 
-pub value_of-times-requires-clause-near : goal.value_of-times-requires-clause-near
-value_of-times-requires-clause-near t c =
+pub term_value-times-requires-clause-near : goal.term_value-times-requires-clause-near
+term_value-times-requires-clause-near t c =
     let core = c.args.under.core.now in
     let w = world_of_core core in
     let sets = c.args.under.doms.now in
@@ -585,10 +588,10 @@ value_of-times-requires-clause-near t c =
     let factor = c.in-Times.factor in
     let whole = subst P c.in-Times.is fits in
     let part = times_part w n factor e whole in
-    λ z is. term_near w sets factor e i part z (ap (λ x. value3 w x e look i) (sym c.get.ensures) ∙ sym c.value_of.ensures ∙ is)
+    λ z is. term_near w sets factor e i part z (ap (λ x. value3 w x e look i) (sym c.get.ensures) ∙ sym c.term_value.ensures ∙ is)
 
-pub value_of-times-requires-clause-product_near : goal.value_of-times-requires-clause-product_near
-value_of-times-requires-clause-product_near t c =
+pub term_value-times-requires-clause-product_near : goal.term_value-times-requires-clause-product_near
+term_value-times-requires-clause-product_near t c =
     let core = c.args.under.core.now in
     let w = world_of_core core in
     let sets = c.args.under.doms.now in
@@ -601,10 +604,10 @@ value_of-times-requires-clause-product_near t c =
     let factor = c.in-Times.factor in
     let whole = subst P c.in-Times.is fits in
     λ z is. term_near w sets (term.Times n factor) e i whole z (value3-Times w n factor e look i
-    ∙ ap (known_map (λ z. pos n *ℤ z)) (ap (λ x. value3 w x e look i) (sym c.get.ensures) ∙ sym c.value_of.ensures) ∙ is)
+    ∙ ap (known_map (λ z. pos n *ℤ z)) (ap (λ x. value3 w x e look i) (sym c.get.ensures) ∙ sym c.term_value.ensures) ∙ is)
 
-pub value_of-returns-in-Number : goal.value_of-returns-in-Number
-value_of-returns-in-Number t c =
+pub term_value-returns-in-Number : goal.term_value-returns-in-Number
+term_value-returns-in-Number t c =
     let core = c.args.under.core.now in
     let w = world_of_core core in
     let sets = c.args.under.doms.now in
@@ -614,8 +617,8 @@ value_of-returns-in-Number t c =
     let same : pos c.in-Number.number ≡ to_z w64 (of_z w64 c.from.result) = omega (arith, ints, c.from.ensures) in
     sym (ap (λ x. value3 w x e look i) c.in-Number.is ∙ value3-Number w c.in-Number.number e look i ∙ ap One same)
 
-pub value_of-returns-in-Value : goal.value_of-returns-in-Value
-value_of-returns-in-Value t c =
+pub term_value-returns-in-Value : goal.term_value-returns-in-Value
+term_value-returns-in-Value t c =
     let core = c.args.under.core.now in
     let w = world_of_core core in
     let sets = c.args.under.doms.now in
@@ -625,8 +628,8 @@ value_of-returns-in-Value t c =
     let same : pos c.in-Value.index ≡ to_z w64 (of_z w64 c.from-in-Value.result) = omega (arith, ints, c.from-in-Value.ensures) in
     sym (ap (λ x. value3 w x e look i) c.in-Value.is ∙ value3-Value w c.in-Value.field-0 c.in-Value.index e look i ∙ ap One same)
 
-pub value_of-returns-in-Var : goal.value_of-returns-in-Var
-value_of-returns-in-Var t c =
+pub term_value-returns-in-Var : goal.term_value-returns-in-Var
+term_value-returns-in-Var t c =
     let core = c.args.under.core.now in
     let w = world_of_core core in
     let sets = c.args.under.doms.now in
@@ -640,8 +643,8 @@ value_of-returns-in-Var t c =
     let known = value3-Var w level e look i in
     sym (ap (λ x. value3 w x e look i) c.in-Var.is ∙ known ∙ ap One (passed z (term_near w sets (term.Var level) e i (subst P c.in-Var.is fits) z known)))
 
-pub value_of-returns-in-Times : goal.value_of-returns-in-Times
-value_of-returns-in-Times t c =
+pub term_value-returns-in-Times : goal.term_value-returns-in-Times
+term_value-returns-in-Times t c =
     let core = c.args.under.core.now in
     let w = world_of_core core in
     let sets = c.args.under.doms.now in
@@ -650,5 +653,5 @@ value_of-returns-in-Times t c =
     let i = c.args.instant in
     let n = c.in-Times.number in
     let factor = c.in-Times.factor in
-    c.times.ensures ∙ ap (known_map (λ z. pos n *ℤ z)) (c.value_of.ensures ∙ ap (λ x. value3 w x e look i) c.get.ensures)
+    c.times.ensures ∙ ap (known_map (λ z. pos n *ℤ z)) (c.term_value.ensures ∙ ap (λ x. value3 w x e look i) c.get.ensures)
     ∙ sym (value3-Times w n factor e look i) ∙ ap (λ x. value3 w x e look i) (sym c.in-Times.is)

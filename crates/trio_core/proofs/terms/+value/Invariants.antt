@@ -1,4 +1,4 @@
--- What the loops of `read` and `sum` keep.
+-- What the loops of `cell_read` and `sum` keep.
 use Rattle.std.proofs.Common.{◌≡◌, ◌++◌, map, length, take, drop}
 use Rattle.std.specs.Option.{option_map}
 use Rattle.trio_types.specs.Values.{indexes}
@@ -9,8 +9,8 @@ use Rattle.trio_core.proofs.TermsFit.{arg_values}
 use Rattle.trio_core.proofs.terms.+value.Given as goal
 
 -- the indexes so far, and those of the arguments that are left
-abbrev pub invariant-read-loop-place : goal.invariant-read-loop-place
-invariant-read-loop-place l = record {
+abbrev pub invariant-cell_read-loop-place : goal.invariant-cell_read-loop-place
+invariant-cell_read-loop-place l = record {
   told : indexes l.under.core.now.domains l.domains (arg_values (world_of_core l.under.core.now) l.under.values.now (known_at (world_of_core l.under.core.now) l.under.doms.now) l.instant l.args)
       ≡ option_map (λ vs. take l.place l.indexes ++ vs)
       (indexes l.under.core.now.domains (drop l.place l.domains)

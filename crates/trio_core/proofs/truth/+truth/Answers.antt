@@ -1,6 +1,5 @@
 -- The answers to the goals of `node_truth` and `for_some`.
 use Rattle.std.proofs.Common.{◌≡◌, ℕ, ◌+◌, ◌<◌, ℤ, pos, negsuc, ◌^◌, ◌+ℤ◌, ◌≤ℤ◌, nat_abs, Fits, w32, T, to_z, of_z, w64, [], ◌∷◌, ◌++◌, length, drop, Some, subst, refl, sym, ap, ◌∙◌, arith, rules}
-use lib.Signed.{non_neg}
 use Rattle.std.proofs.lemmas.Int.{ints}
 use Rattle.std.proofs.lemmas.List.{take_more_set, take-set-le, length-set}
 use Rattle.trio_types.proofs.Bounded.{near_of}
@@ -14,17 +13,9 @@ use Rattle.trio_core.specs.Stands.{world_of_core, NodeAsked}
 use Rattle.trio_core.specs.Fits.{BodyFits}
 use Rattle.trio_core.proofs.TermsFit.{term_near}
 use Rattle.trio_core.proofs.NodesFit.{core_formed, part_asked, atom_terms, dist_term, exists_body, exists_before, dist_known}
-use Rattle.trio_core.proofs.Evaluating.{any_more, any_end, any_found, eval_atom, eval_not, eval_and, eval_or, eval_exists, eval_dist, any_at, none_at, written, passed_on, numbers_passed, one_of_numbers}
+use Rattle.trio_core.proofs.Evaluating.{any_more, any_end, any_found, eval_atom, eval_not, eval_and, eval_or, eval_exists, eval_dist, any_at, none_at, absolute, castable, written, passed_on, numbers_passed, one_of_numbers}
 use Rattle.trio_core.proofs.truth.+truth.Goals.{node_truth-else-target-ge0-via-then-target-ge0+else-target-from, node_truth-else-target-ge0-via-else-target-ge0}
 use Rattle.trio_core.proofs.truth.+truth.Goals as goal
-
--- a target inside time as a number
-absolute : (z : ℤ) → pos 0 ≤ℤ z → z ≡ pos (nat_abs z)
-absolute (pos n) from = refl
-absolute (negsuc n) from = absurd (omega (arith, ints, from))
-
-castable : (z : ℤ) (n : ℕ) → z ≡ pos n → n < 2 ^ 32 → T (non_neg z) × Fits w32 (nat_abs z)
-castable z n is small = rw is (tt, search rules)
 
 pub for_some-node_truth-requires : goal.for_some-node_truth-requires
 for_some-node_truth-requires t c =
@@ -136,8 +127,8 @@ for_some-returns t c =
     let many : c.number_of-index-end.result ≡ length zs = c.number_of-index-end.ensures ∙ ap length same_numbers in
     any_end q zs k c.loop-index.found (any3 q (drop c.args.from zs)) (omega (arith, c.loop-index-test.false, many, c.loop-index.auto)) so_far
 
-pub node_truth-value_of-left-requires-clause-term_fits : goal.node_truth-value_of-left-requires-clause-term_fits
-node_truth-value_of-left-requires-clause-term_fits t c =
+pub node_truth-term_value-left-requires-clause-term_fits : goal.node_truth-term_value-left-requires-clause-term_fits
+node_truth-term_value-left-requires-clause-term_fits t c =
     let core = c.args.under.core.now in
     let e = c.args.under.values.now in
     let a = c.args.node in
@@ -146,8 +137,8 @@ node_truth-value_of-left-requires-clause-term_fits t c =
     let terms = atom_terms core a c.in-Atom.rel c.in-Atom.left c.in-Atom.right e at lie in
     terms.0
 
-pub node_truth-value_of-right-requires-clause-term_fits : goal.node_truth-value_of-right-requires-clause-term_fits
-node_truth-value_of-right-requires-clause-term_fits t c =
+pub node_truth-term_value-right-requires-clause-term_fits : goal.node_truth-term_value-right-requires-clause-term_fits
+node_truth-term_value-right-requires-clause-term_fits t c =
     let core = c.args.under.core.now in
     let e = c.args.under.values.now in
     let a = c.args.node in
@@ -234,8 +225,8 @@ node_truth-for_some-requires t c =
       (c.requires.sets_fit, subst (λ l. BodyFits core l (to_z w64 (of_z w64 high)) p c.args.from i e) low_is (subst (λ h. BodyFits core low h p c.args.from i e) high_is body)),
     )
 
-pub node_truth-value_of-requires-clause-term_fits : goal.node_truth-value_of-requires-clause-term_fits
-node_truth-value_of-requires-clause-term_fits t c =
+pub node_truth-term_value-requires-clause-term_fits : goal.node_truth-term_value-requires-clause-term_fits
+node_truth-term_value-requires-clause-term_fits t c =
     let core = c.args.under.core.now in
     let e = c.args.under.values.now in
     let a = c.args.node in
@@ -258,7 +249,7 @@ node_truth-unreachable-requires t c =
     let p = c.in-Dist.part in
     let x = c.in-Dist.distance in
     let k = dist_known core a p x e sets i at lie in
-    c.in_default-value_of.not-One k.0 (c.value_of.ensures ∙ k.1)
+    c.in_default-term_value.not-One k.0 (c.term_value.ensures ∙ k.1)
 
 pub node_truth-overflow_add-target : goal.node_truth-overflow_add-target
 node_truth-overflow_add-target t c =
@@ -275,7 +266,7 @@ node_truth-overflow_add-target t c =
     let x = c.in-Dist.distance in
     let fits = dist_term core a p x e at lie in
     let d = c.in-One.distance in
-    let known = sym c.value_of.ensures ∙ c.in-One.is in
+    let known = sym c.term_value.ensures ∙ c.in-One.is in
     let near = near_of d (term_near w sets x e i fits d known) in
     let few = few_instants (declarations_of w) (core_formed core) in
     omega (arith, ints, near.not_far_back, near.not_far_on, few, inside, c.from.ensures)
@@ -325,7 +316,7 @@ node_truth-returns-in-Atom t c =
     let a = c.args.node in
     let at = c.get.ensures ∙ ap Some c.in-Atom.is in
     let rel = c.in-Atom.rel in
-    c.compare.ensures ∙ ap (λ v. relates3 rel v c.value_of-right.result) c.value_of-left.ensures ∙ ap (relates3 rel (value3 w c.in-Atom.left e look i)) c.value_of-right.ensures
+    c.compare.ensures ∙ ap (λ v. relates3 rel v c.term_value-right.result) c.term_value-left.ensures ∙ ap (relates3 rel (value3 w c.in-Atom.left e look i)) c.term_value-right.ensures
     ∙ sym (eval_atom w nodes a c.args.from rel c.in-Atom.left c.in-Atom.right e sets i at)
 
 pub node_truth-returns-in-Not : goal.node_truth-returns-in-Not
@@ -446,7 +437,7 @@ node_truth-returns-then-target-from t c =
     let x = c.in-Dist.distance in
     let fits = dist_term core a p x e at lie in
     let d = c.in-One.distance in
-    let known = sym c.value_of.ensures ∙ c.in-One.is in
+    let known = sym c.term_value.ensures ∙ c.in-One.is in
     let near = near_of d (term_near w sets x e i fits d known) in
     let few = few_instants (declarations_of w) (core_formed core) in
     let target = to_z w64 (of_z w64 (to_z w64 (of_z w64 c.from.result) +ℤ to_z w64 (of_z w64 d))) in
@@ -475,7 +466,7 @@ node_truth-returns-else-target-ge0 t c =
     let x = c.in-Dist.distance in
     let fits = dist_term core a p x e at lie in
     let d = c.in-One.distance in
-    let known = sym c.value_of.ensures ∙ c.in-One.is in
+    let known = sym c.term_value.ensures ∙ c.in-One.is in
     let near = near_of d (term_near w sets x e i fits d known) in
     let few = few_instants (declarations_of w) (core_formed core) in
     let target = to_z w64 (of_z w64 (to_z w64 (of_z w64 c.from.result) +ℤ to_z w64 (of_z w64 d))) in

@@ -1,0 +1,71 @@
+//! Histories that are printed, read and printed again.
+ghost use Rattle.std.specs.Prelude.{◌≡◌, length};
+ghost use Rattle.trio_types.specs.Verdict.{world_of};
+ghost use Rattle.trio_types.specs.Cells.{cells_of};
+ghost use Rattle.history_table.specs.Fitting.{IsGiven};
+
+use super::maker::Maker;
+use super::spec_maker::made_spec;
+use super::tables::{made_given, table_of};
+use history_table::{Given, given_text, read_history, table_text};
+use std::process::Abort;
+use std::test::Fail;
+use trio_reader::read_spec;
+use trio_types::Spec;
+
+/// Asserts that what is printed of a given history reads as that history, and where each value is known as that table.
+fn comes_back(rt: &(impl Abort + AllocGlobal), spec: &Spec, given: &Given) -> Result<(), Fail>
+    requires { length given.now ≡ length (cells_of (world_of spec.now)) }
+{
+    let alloc = rt.alloc();
+    let text = given_text(alloc, spec, given)?;
+    let again = read_history(alloc, spec, text.as_slice())?;
+    assert_eq!(rt; again.as_slice(), given.as_slice());
+    let second = given_text(alloc, spec, &again)?;
+    assert_eq!(rt; second.as_slice(), text.as_slice());
+    whole_comes_back(rt, spec, &again, text.as_slice())
+}
+
+/// Asserts that the text of a table is that of the given history, and that there is a table exactly where each value is known.
+fn whole_comes_back(
+    rt: &(impl Abort + AllocGlobal),
+    spec: &Spec,
+    given: &Given,
+    text: &[u8],
+) -> Result<(), Fail>
+    requires { IsGiven (world_of spec.now) given.now }
+{
+    let alloc = rt.alloc();
+    let found = table_of(alloc, spec, given)?;
+    assert_eq!(rt; found.is_some(), !text.contains(&b'?'));
+    if let Some(table) = found {
+        let printed = table_text(alloc, spec, &table)?;
+        assert_eq!(rt; printed.as_slice(), text);
+    }
+    Ok(())
+}
+
+/// Makes three histories, of which one is whole.
+fn histories_come_back(
+    rt: &(impl Abort + AllocGlobal),
+    spec: &Spec,
+    maker: &mut Maker,
+) -> Result<(), Fail> {
+    for known in [false, true, false] {
+        let given = made_given(rt.alloc(), maker, spec, known)?;
+        comes_back(rt, spec, &given)?;
+    }
+    Ok(())
+}
+
+#[test]
+fn made_histories_come_back(rt: HostRuntime) -> Result<(), Fail> {
+    let alloc = rt.alloc();
+    for number in 0_u64..700 {
+        let text = made_spec(alloc, number)?;
+        let spec = read_spec(alloc, text.as_bytes())?;
+        let mut maker = Maker::new(number);
+        histories_come_back(&rt, &spec, &mut maker)?;
+    }
+    Ok(())
+}

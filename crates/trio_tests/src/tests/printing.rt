@@ -1,0 +1,147 @@
+//! Texts that are printed, against texts that are written by hand.
+ghost use Rattle.std.specs.Prelude.{◌≡◌, ◌++◌, ◌∷◌, [], IfOk, OnOk};
+ghost use Rattle.trio_types.specs.Verdict.{world_of};
+ghost use Rattle.trio_types.specs.Cells.{IsTable};
+
+use super::tables::table_of;
+use history_table::{Table, Tables, given_text, list_text, read_history, table_text};
+use std::alloc::AllocError;
+use std::process::Abort;
+use std::test::Fail;
+use trio_reader::{read_spec, spec_text};
+use trio_types::{Bytes, Spec};
+
+const SPEC: &str =
+    "time 03; // three\ndomain d=-1 .. 02;item p:bool;domain m={red,green};item q(d,m):bool;input x:d;goal G:(true);
+axiom A at 0:all v:d(!(q([v+1],red)&x<v)|Until(((p)),x=-[2*v-1]));axiom B:3*[x+1]=[2*[3*x]]-1->p;";
+
+const PRINTED_SPEC: &str = "time 3;
+domain d = -1..2;
+domain m = {red, green};
+item p : bool;
+item q(d, m) : bool;
+input x : d;
+axiom A at 0 : all v : d ((!(q(v + 1, red) & (x < v))) | Until(p, x = -[2 * v - 1]));
+axiom B : (3 * [x + 1] = 2 * [3 * x] - 1) -> p;
+goal G : true;
+";
+
+const ROWS: &str =
+    "time 2; domain d = -1..0; domain m = {red, green}; item p : bool; item c(d, m) : m; item n : d;";
+
+const GIVEN: &str = "n: 0 -1 // the last
+c(0, green): ? red
+
+p: true ?
+c(-1,red): red green
+c(0,red): green green
+c(-1,green): ? ?";
+
+const PRINTED_GIVEN: &str = "p: 1 ?
+c(-1,red): red green
+c(-1,green): ? ?
+c(0,red): green green
+c(0,green): ? red
+n: 0 -1
+";
+
+const WHOLE: &str = "n: 00 -1
+c(0, green): green red
+p: true 0
+c(-1,red): red green
+c(0,red): green green
+c(-1,green): red red";
+
+const PRINTED_TABLE: &str = "p: 1 0
+c(-1,red): red green
+c(-1,green): red red
+c(0,red): green green
+c(0,green): green red
+n: 0 -1
+";
+
+const PRINTED_LIST: &str = "histories 4
+history 1
+p: 0 0 0
+history 2
+p: 0 0 1
+history 3
+p: 0 1 1
+history 4
+p: 1 1 1
+";
+
+#[test]
+fn a_specification_as_it_is_printed(rt: HostRuntime) -> Result<(), Fail> {
+    let alloc = rt.alloc();
+    let spec = read_spec(alloc, SPEC.as_bytes())?;
+    let text = spec_text(alloc, &spec)?;
+    assert_eq!(rt; text.as_slice(), PRINTED_SPEC.as_bytes());
+    Ok(())
+}
+
+#[test]
+fn a_given_history_as_it_is_printed(rt: HostRuntime) -> Result<(), Fail> {
+    let alloc = rt.alloc();
+    let spec = read_spec(alloc, ROWS.as_bytes())?;
+    let given = read_history(alloc, &spec, GIVEN.as_bytes())?;
+    let text = given_text(alloc, &spec, &given)?;
+    assert_eq!(rt; text.as_slice(), PRINTED_GIVEN.as_bytes());
+    Ok(())
+}
+
+#[test]
+fn a_table_as_it_is_printed(rt: HostRuntime) -> Result<(), Fail> {
+    let alloc = rt.alloc();
+    let spec = read_spec(alloc, ROWS.as_bytes())?;
+    let table = read_table(&rt, &spec, WHOLE)?;
+    let text = table_text(alloc, &spec, &table)?;
+    assert_eq!(rt; text.as_slice(), PRINTED_TABLE.as_bytes());
+    Ok(())
+}
+
+/// The table that a text is.
+fn read_table(rt: &(impl Abort + AllocGlobal), spec: &Spec, text: &str) -> Result<Table, Fail>
+    ensures { IfOk result (IsTable (world_of spec.now)) }
+{
+    let alloc = rt.alloc();
+    let given = read_history(alloc, spec, text.as_bytes())?;
+    let Some(table) = table_of(alloc, spec, &given)? else {
+        panic!(rt; "a value is not known");
+    };
+    Ok(table)
+}
+
+/// The text of the list of the tables that these texts are.
+fn listed(rt: &(impl Abort + AllocGlobal), spec: &Spec, texts: &[&str]) -> Result<Bytes, Fail> {
+    let mut tables = Tables::new(rt.alloc());
+    for text in texts {
+        let table = read_table(rt, spec, text)?;
+        add_table(&mut tables, table)?;
+    }
+    let text = list_text(rt.alloc(), spec, &tables)?;
+    Ok(text)
+}
+
+fn add_table(tables: &mut Tables, table: Table) -> Result<(), AllocError>
+    ensures { OnOk result (tables.new ≡ tables.old ++ table ∷ []) }
+{
+    match tables.push(table) {
+        Ok(()) => Ok(()),
+        Err((_, error)) => Err(error),
+    }
+}
+
+#[test]
+fn a_list_of_tables_as_it_is_printed(rt: HostRuntime) -> Result<(), Fail> {
+    let spec = read_spec(rt.alloc(), b"time 3; item p : bool;")?;
+    let text = listed(
+        &rt,
+        &spec,
+        &["p: 0 0 0", "p: 0 0 1", "p: 0 1 1", "p: 1 1 1"],
+    )?;
+    assert_eq!(rt; text.as_slice(), PRINTED_LIST.as_bytes());
+    let text = listed(&rt, &spec, &[])?;
+    assert_eq!(rt; text.as_slice(), b"histories 0\n".as_slice());
+    Ok(())
+}
