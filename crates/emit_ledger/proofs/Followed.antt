@@ -7,7 +7,7 @@ use Rattle.std.proofs.lemmas.List.{length-append}
 use Rattle.std.proofs.Math.Logic.{⊎_elim}
 use Rattle.std.proofs.lemmas.Option.{none-some, same_Some, get_or_from_slice_get, slice_get_within}
 use Rattle.std.proofs.lemmas.List.Sums.{sum_by-cons, sum_by-append, sum_by_push, sum_by-set}
-use Rattle.std.proofs.lemmas.List.Elements.{All-nil, All-cons, All-head, All-tail, All-append, All-push, All-pop, Contains-push_cases, length_all_zip}
+use Rattle.std.proofs.lemmas.List.Elements.{All-nil, All-cons, All-head, All-tail, All-append, All-push, All-pop, Contains-push_cases}
 use Rattle.trio_lists.specs.Multisets.{Permutes}
 use Rattle.trio_lists.proofs.Permuted.{sum_by-flat_map, permutes_from, permutes_back, permutes_on}
 use Rattle.trio_lists.proofs.Grouped.{sum_by-map, sum_by-flat_map_append, sum_by-flat_map_push}

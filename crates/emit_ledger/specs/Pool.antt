@@ -1,6 +1,5 @@
 -- Regions that are taken out of their places one after the other.
 use Rattle.std.specs.Prelude.{◌≡◌, ℕ, Option, None, Some, List, slice_get, slice_set}
-use Rattle.std.specs.List.{Contains, AllZip}
 use Rattle.branch_state.specs.declared.branch.Branch.{Branch}
 use Rattle.branch_state.specs.Posed.{Posed}
 use Rattle.emit_ledger.specs.Regions.{RegionView}

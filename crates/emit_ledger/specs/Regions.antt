@@ -1,5 +1,5 @@
 -- Regions: what was found of a branch, and which branches are left of it.
-use Rattle.std.specs.Prelude.{ℕ, ◌-◌, List, ◌++◌, take, length, refl}
+use Rattle.std.specs.Prelude.{ℕ, ◌-◌, ◌<◌, List, ◌++◌, take, length, refl}
 use Rattle.std.specs.Coded.{Coded, code_by, coded×, coded_ℕ, coded_list}
 use Rattle.std.specs.List.{All}
 use Rattle.trio_lists.specs.Multisets.{Permutes}
@@ -7,6 +7,7 @@ use Rattle.branch_state.specs.contracts.branch.Branch as the_branch
 use Rattle.branch_state.specs.declared.branch.Branch.{Branch}
 use Rattle.branch_state.specs.Posed.{Posed, posed_code}
 use Rattle.branch_state.specs.Branches.{reps, reps_all, Fits}
+use Rattle.branch_state.specs.Weight.{weight}
 
 -- a branch of a problem, the tables that were found of it, and the branches that are given for what is left of it
 pub record RegionView : Type 0 where
@@ -40,3 +41,7 @@ without_last xs = take (length xs - 1) xs
 -- a part stands in the place of the last given branch
 abbrev pub absorbed : RegionView → RegionView → RegionView
 absorbed region part = region_view region.problem region.start (region.found ++ part.found) (without_last region.given ++ part.given)
+
+-- each given branch weighs less than the start
+abbrev pub IsLighter : RegionView → Type 0
+IsLighter r = All (λ b. weight r.problem b < weight r.problem r.start) r.given

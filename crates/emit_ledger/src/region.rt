@@ -1,7 +1,7 @@
 //! Regions.
 ghost use Rattle.std.specs.Prelude.{◌≡◌, [], ◌∷◌, ◌-◌, length, slice_get, Some, IfOk, OnOk, OnErr, IfErr};
 ghost use Rattle.branch_state.specs.Branches.{Fits};
-ghost use Rattle.emit_ledger.specs.Regions.{IsRegion, region_view, absorbed};
+ghost use Rattle.emit_ledger.specs.Regions.{IsRegion, IsLighter, region_view, absorbed};
 
 use crate::joining::join;
 use branch_state::{Branch, Branches, List, Problem, Table, Tables, copy};
@@ -95,9 +95,10 @@ impl<'p> Region<'p> {
         })
     }
 
-    /// A branch that is parted in two: the right one is given, then the left one. Only want of memory refuses it.
+    /// A branch that is parted in two: the right one is given, then the left one. Both weigh less. Only want of memory refuses it.
     pub fn fork(alloc: Global, fork: Fork<'p>) -> Result<Region<'p>, AllocError>
-        ensures { IfOk result (λ made. made ≡ region_view fork.entry.problem fork.entry.start [] (fork.entry.right ∷ fork.entry.left ∷ [])) }
+        ensures is { IfOk result (λ made. made ≡ region_view fork.entry.problem fork.entry.start [] (fork.entry.right ∷ fork.entry.left ∷ [])) }
+        ensures lighter { IfOk result IsLighter }
     {
         let ForkParts {
             problem,

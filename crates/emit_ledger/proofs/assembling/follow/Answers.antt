@@ -1,5 +1,5 @@
 -- The answers to the goals of `follow`.
-use Rattle.std.proofs.Common.{arith, ◌≡◌, ◌++◌, ◌∷◌, [], List, length, refl, sym, ap, ◌∙◌, subst}
+use Rattle.std.proofs.Common.{arith, ◌≡◌, ◌++◌, ◌∷◌, [], List, length, refl, ap, ◌∙◌, subst}
 use Rattle.emit_ledger.specs.Regions.{IsRegion}
 use Rattle.emit_ledger.proofs.Followed.{Followed, follow_first, follow_used, follow_left, follow_assembled, follow_covers, some_stand, measure_used}
 use Rattle.emit_ledger.proofs.assembling.follow.Goals as goal

@@ -1,5 +1,4 @@
 -- What the loop of `follow` keeps, and why it ends.
-use Rattle.std.proofs.Common.{map, Some}
 use Rattle.emit_ledger.proofs.Followed.{Followed, follow_measure}
 use Rattle.emit_ledger.proofs.assembling.follow.Given as goal
 

@@ -1,5 +1,4 @@
 -- The answer to the goal of `fork`.
-use Rattle.std.proofs.Common.{sym}
 use Rattle.emit_ledger.proofs.Joined.{fork_is}
 use Rattle.emit_ledger.proofs.region.Region.fork.Goals as goal
 
