@@ -57,6 +57,10 @@ more_spent p starts i b inside is =
 pub part_spent : (p : Posed) (starts : List Branch) (i : ℕ) → bulk p (take i starts) ≤ bulk p starts
 part_spent p starts i = sum_by-take-le (λ b. 2 ^ (weight p b + 1) - 1) starts i
 
+pub within_spent : (p : Posed) (starts : List Branch) (i : ℕ) (b : Branch) → i < length starts → b ≡ get_or starts i b →
+    bulk p (take i starts) + bulk p (b ∷ []) ≤ bulk p starts
+within_spent p starts i b inside is = omega (arith, more_spent p starts i b inside is, part_spent p starts (i + 1))
+
 -- tables in another order, with nothing left, cover the whole
 pub covers_all : (p : Posed) (whole found sorted : List (List ℕ)) → Permutes found whole → IsPermutation found sorted → Covers p whole sorted []
 covers_all p whole found sorted so moved = record {

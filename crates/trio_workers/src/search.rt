@@ -24,13 +24,13 @@ pub(crate) fn search<'p, L: Ledger>(
 {
     let mut region = Region::give(alloc, problem, start)?;
     while !region.given().is_empty() {
-        turn(alloc, &mut region, steps)?;
+        advance(alloc, &mut region, steps)?;
     }
     Ok(region.into_parts().found)
 }
 
 /// Takes one step on the last given branch of a region, and puts the answer in its place. Only want of memory refuses it.
-fn turn<'p, L: Ledger>(
+fn advance<'p, L: Ledger>(
     alloc: Global,
     region: &mut Region<'p>,
     steps: &mut Steps<L>,
@@ -43,7 +43,7 @@ fn turn<'p, L: Ledger>(
     let problem = region.problem();
     let given = region.given();
     let last = copy(alloc, given.get(given.len() - 1))?;
-    let part = part(alloc, problem, last, steps)?;
+    let part = region_of_step(alloc, problem, last, steps)?;
     match region.absorb(alloc, part) {
         Ok(()) => Ok(()),
         Err((_, refused)) => Err(refused),
@@ -51,7 +51,7 @@ fn turn<'p, L: Ledger>(
 }
 
 /// The region of one step on a branch. Only want of memory refuses it.
-fn part<'p, L: Ledger>(
+fn region_of_step<'p, L: Ledger>(
     alloc: Global,
     problem: &'p Problem,
     branch: Branch,

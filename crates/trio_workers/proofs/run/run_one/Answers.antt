@@ -3,7 +3,7 @@ use Rattle.std.proofs.Common.{◌≡◌, ◌+◌, ◌<◌, ◌++◌, List, take,
 use Rattle.std.proofs.lemmas.List.{take_all}
 use Rattle.trio_lists.specs.Multisets.{Permutes}
 use Rattle.branch_state.specs.Branches.{reps_all}
-use Rattle.trio_workers.proofs.Found.{first_found, more_found, more_spent, part_spent, covers_all}
+use Rattle.trio_workers.proofs.Found.{first_found, more_found, more_spent, within_spent, part_spent, covers_all}
 use Rattle.trio_workers.proofs.run.run_one.Goals as goal
 
 pub loop-start-init : goal.loop-start-init
@@ -11,21 +11,29 @@ loop-start-init g c = record { found = first_found c.args.kept c.into_vec-found.
 
 pub returns-in_err-models-clause-steps : goal.returns-in_err-models-clause-steps
 returns-in_err-models-clause-steps g c =
-    let p = c.args.problem.now in
     let i = c.loop-start.start-index in
     let b = c.start-item.result in
-    let inside : i < length c.args.starts = subst (λ bs. i < length bs) c.as_slice-start-items.ensures c.loop-start-test.true in
-    let is : b ≡ get_or c.args.starts i b = c.start-item.is ∙ ap (λ bs. get_or bs i b) c.as_slice-start-items.ensures in
-    omega (arith, c.loop-start.invariant.spent, c.search.ensures.steps, more_spent p c.args.starts i b inside is, part_spent p c.args.starts (i + 1))
+    omega (
+      arith,
+      c.loop-start.invariant.spent,
+      c.search.ensures.steps,
+      within_spent c.args.problem.now c.args.starts i b
+      (subst (λ bs. i < length bs) c.as_slice-start-items.ensures c.loop-start-test.true)
+      (c.start-item.is ∙ ap (λ bs. get_or bs i b) c.as_slice-start-items.ensures),
+    )
 
 pub returns-in_err-append-clause-steps : goal.returns-in_err-append-clause-steps
 returns-in_err-append-clause-steps g c =
-    let p = c.args.problem.now in
     let i = c.loop-start.start-index in
     let b = c.start-item.result in
-    let inside : i < length c.args.starts = subst (λ bs. i < length bs) c.as_slice-start-items.ensures c.loop-start-test.true in
-    let is : b ≡ get_or c.args.starts i b = c.start-item.is ∙ ap (λ bs. get_or bs i b) c.as_slice-start-items.ensures in
-    omega (arith, c.loop-start.invariant.spent, c.search.ensures.steps, more_spent p c.args.starts i b inside is, part_spent p c.args.starts (i + 1))
+    omega (
+      arith,
+      c.loop-start.invariant.spent,
+      c.search.ensures.steps,
+      within_spent c.args.problem.now c.args.starts i b
+      (subst (λ bs. i < length bs) c.as_slice-start-items.ensures c.loop-start-test.true)
+      (c.start-item.is ∙ ap (λ bs. get_or bs i b) c.as_slice-start-items.ensures),
+    )
 
 pub loop-start-preserved : goal.loop-start-preserved
 loop-start-preserved g c =

@@ -1,11 +1,18 @@
--- The answers to the goals of `part`.
+-- The answers to the goals of `region_of_step`.
 use Rattle.std.proofs.lemmas.Result.{IfOk-weaker}
+use Rattle.branch_state.specs.declared.branch.Branch.{Branch}
+use Rattle.branch_state.specs.Posed.{Posed}
 use Rattle.decompose.specs.Stepped.{IsStep}
 use Rattle.std.proofs.Common.{◌≡◌, [], ◌∷◌, Result, Ok, Err, IfOk, subst}
-use Rattle.emit_ledger.specs.Regions.{region_view}
+use Rattle.emit_ledger.specs.Regions.{RegionView, IsLighter, region_view}
 use Rattle.trio_workers.specs.Runs.{IsPart}
 use Rattle.trio_workers.proofs.Bulks.{part_alone, part_parted}
-use Rattle.trio_workers.proofs.search.part.Goals as goal
+use Rattle.trio_workers.proofs.search.region_of_step.Goals as goal
+
+parted_region : {E : Type 0} (p : Posed) (b : Branch) (q : Posed) (start left right : Branch) (made : Result RegionView E) →
+    IfOk made (λ r. r ≡ region_view q start [] (right ∷ left ∷ [])) → IfOk made IsLighter → q ≡ p → start ≡ b → IfOk made (IsPart p b)
+parted_region p b q start left right (Ok r) is lighter problem same = part_parted p q b start left right r is problem same lighter
+parted_region p b q start left right (Err e) is lighter problem same = tt
 
 pub returns-in-Ok-Closed-clause-part : goal.returns-in-Ok-Closed-clause-part
 returns-in-Ok-Closed-clause-part g c =
@@ -31,8 +38,4 @@ returns-in-Ok-Two-clause-part g c =
     let b = c.args.branch in
     let fork = c.in-Ok-Two.fork in
     let held = subst (IsStep p b) c.in-Ok-Two.field-0-is c.in-Ok-Two.ensures.held in
-    parted c.fork.result c.fork.ensures.is c.fork.ensures.lighter (λ r is lighter. part_parted p fork.problem b fork.start fork.left fork.right r is held.0 held.1 lighter)
-  where
-    parted : {T E : Type 0} {P Q R : T → Type 0} (r : Result T E) → IfOk r P → IfOk r Q → ((x : T) → P x → Q x → R x) → IfOk r R
-    parted (Ok x) p q each = each x p q
-    parted (Err e) p q each = tt
+    parted_region p b fork.problem fork.start fork.left fork.right c.fork.result c.fork.ensures.is c.fork.ensures.lighter held.0 held.1

@@ -1,9 +1,9 @@
--- The answer to the goal of `turn`.
+-- The answer to the goal of `advance`.
 use Rattle.std.proofs.Common.{◌≡◌, ◌-◌, ◌<◌, [], ◌∷◌, length, slice_get, Some, sym, ap, ◌∙◌, subst}
 use Rattle.branch_state.specs.Weight.{bulk}
 use Rattle.trio_workers.proofs.Bulks.{bulk_absorbed}
-use Rattle.trio_workers.proofs.search.turn.Goals.{in-Ok, in-Err}
-use Rattle.trio_workers.proofs.search.turn.Goals as goal
+use Rattle.trio_workers.proofs.search.advance.Goals.{in-Ok, in-Err}
+use Rattle.trio_workers.proofs.search.advance.Goals as goal
 
 pub returns-clause-fewer : goal.returns-clause-fewer
 returns-clause-fewer g c =
