@@ -1,4 +1,5 @@
 -- The lemmas of the crate.
 pub mod Permuted
 pub mod Filters
+pub mod Grouped
 pub mod Unique
