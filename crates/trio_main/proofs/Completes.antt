@@ -1,6 +1,7 @@
 -- From what `complete` loads to what it ends with.
 use Rattle.std.proofs.Common.{◌≡◌, ℕ, inl, inr, List, Result, Err, refl, sym, ◌∙◌, ap, Some, subst}
 use Rattle.trio_io.specs.Outside.{ShelfView, SinkView, OnlyReads}
+use Rattle.trio_types.specs.declared.spec.Spec.{Spec}
 use Rattle.trio_types.specs.Verdict.{world_of}
 use Rattle.history_table.specs.Texts.{list_text}
 use Rattle.branch_state.specs.Posed.{Posed}
@@ -44,12 +45,13 @@ listed_answers before now s h p found reads loaded is = inl (record {
 })
 
 -- that list was given, or memory was wanting
-pub listed_ends : (before now : ShelfView) (s h : List ℕ) (p : Posed) (found : List (List ℕ)) (old new : SinkView) (r : Result Status Fault) →
-    OnlyReads 2 before now → IsLoadedProblem before s h p → found ≡ models p →
-    GivesOrWants status.Done (list_text (world_of p.spec) found) old new r → Ends (Some (command.Complete s h)) before now old new r
-listed_ends before now s h p found old new r reads loaded is (inl gives) =
-    given_ends (Some (command.Complete s h)) before now old new status.Done (list_text (world_of p.spec) found) r
-    (listed_answers before now s h p found reads loaded is) gives
-listed_ends before now s h p found old new r reads loaded is (inr want) =
+pub listed_ends : (before now : ShelfView) (s h : List ℕ) (p : Posed) (spec : Spec) (found : List (List ℕ)) (old new : SinkView)
+    (r : Result Status Fault) → p.spec ≡ spec → OnlyReads 2 before now → IsLoadedProblem before s h p → found ≡ models p →
+    GivesOrWants status.Done (list_text (world_of spec) found) old new r → Ends (Some (command.Complete s h)) before now old new r
+listed_ends before now s h p spec found old new r same reads loaded is (inl gives) =
+    given_ends (Some (command.Complete s h)) before now old new status.Done (list_text (world_of spec) found) r
+    (subst (λ t. Answers (Some (command.Complete s h)) before now status.Done (list_text (world_of t) found)) same
+    (listed_answers before now s h p found reads loaded is)) gives
+listed_ends before now s h p spec found old new r same reads loaded is (inr want) =
     subst (λ r. Ends (Some (command.Complete s h)) before now old new r) (sym want.0)
     (inr (inr (inr (record { status_is = refl; text_is = refl })), want.1))

@@ -1,10 +1,10 @@
 -- The completions are the models of any problem of the specification and the given history.
-use Rattle.std.proofs.Common.{◌≡◌, ℕ, ◌&&◌, [], List, Option, Some, slice_get, refl, ap, ◌∙◌, sym, subst}
+use Rattle.std.proofs.Common.{◌≡◌, ℕ, ◌&&◌, [], List, Option, Some, length, slice_get, refl, ap, ◌∙◌, sym, subst}
 use Rattle.std.specs.Prelude.{filter}
 use Rattle.std.specs.List.{list_all, flat_map, enumerate_from}
 use Rattle.std.proofs.lemmas.Option.{slice_get_within, get_or_from_slice_get}
 use Rattle.trio_types.specs.declared.spec.Spec.{Spec}
-use Rattle.trio_types.specs.Cells.{IsTable}
+use Rattle.trio_types.specs.Cells.{cells_of}
 use Rattle.trio_types.specs.Parts.{Parts, world_of_parts}
 use Rattle.trio_types.specs.Truth.{truth}
 use Rattle.trio_types.specs.Verdict.{Demand, parts_of, world_of, demands_of, demands_of_axiom}
@@ -19,13 +19,14 @@ pub completions_are : (p : Posed) → completions p.spec p.given ≡ models p
 unfolding completions models
 completions_are p = refl
 
--- each model is a table of the specification
-pub models_fit : (p : Posed) (tables : List (List ℕ)) → tables ≡ models p → (k : ℕ) (table : List ℕ) → slice_get tables k ≡ Some table →
-    IsTable (world_of p.spec) table
-models_fit p tables is k table at =
-    let there : slice_get (models p) k ≡ Some table = rw is at at in
+-- each model has a value for each cell
+pub models_fit : (p : Posed) (spec : Spec) (tables : List (List ℕ)) → p.spec ≡ spec → tables ≡ models p → (k : ℕ) (table : List ℕ) →
+    slice_get tables k ≡ Some table → length table ≡ length (cells_of (world_of spec))
+models_fit p spec tables same is k table at =
+    let there : slice_get (models p) k ≡ Some table = ap (λ ts. slice_get ts k) (sym is) ∙ at in
     let fits = models_are p k table (slice_get_within (models p) k table there) in
-    subst (λ t. IsTable (world_of p.spec) t) (get_or_from_slice_get (models p) k table table there) fits.is_table
+    subst (λ s. length table ≡ length (cells_of (world_of s))) same
+    (subst (λ t. length t ≡ length (cells_of (world_of p.spec))) (get_or_from_slice_get (models p) k table table there) fits.is_table.whole)
 
 -- the list rests on the parts of the specification
 text_by_parts : Parts → List (Option ℕ) → List ℕ

@@ -8,6 +8,7 @@ pub mod Completions
 pub mod FileFaults
 pub mod Histories
 pub mod Jobs
+pub mod ListPieces
 pub mod Loaded
 pub mod Pieces
 pub mod Tellings
