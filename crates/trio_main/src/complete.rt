@@ -27,7 +27,7 @@ pub fn job_complete<F: Shelf, K: Sink>(
 {
     let problem = load(alloc, shelf, spec, history)?;
     match all_models(alloc, &problem) {
-        Ok(found) => give_list(alloc, out, &problem.spec, &found),
+        Ok(found) => give_list(alloc, out, &problem.spec, found),
         Err(_) => Err(Fault::Memory),
     }
 }

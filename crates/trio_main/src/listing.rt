@@ -20,10 +20,10 @@ pub fn give_list<K: Sink>(
     alloc: Global,
     out: &mut K,
     spec: &Spec,
-    tables: &Tables,
+    tables: Tables,
 ) -> Result<Status, Fault>
-    requires { (k : ℕ) (table : List ℕ) → slice_get tables.now k ≡ Some table → length table ≡ length (cells_of (world_of spec.now)) }
-    ensures { GivesOrWants Status.Done (list_text (world_of spec.now) tables.now) (K.seen out.old) (K.seen out.new) result }
+    requires { (k : ℕ) (table : List ℕ) → slice_get tables k ≡ Some table → length table ≡ length (cells_of (world_of spec.now)) }
+    ensures { GivesOrWants Status.Done (list_text (world_of spec.now) tables) (K.seen out.old) (K.seen out.new) result }
 {
     match list_answer(alloc, spec, tables) {
         Ok(answer) => give(out, &answer),
@@ -31,18 +31,20 @@ pub fn give_list<K: Sink>(
     }
 }
 
-/// The list as an answer, whose pieces are its first line and each table behind its number.
-fn list_answer(alloc: Global, spec: &Spec, tables: &Tables) -> Result<Answer, AllocError>
-    requires { (k : ℕ) (table : List ℕ) → slice_get tables.now k ≡ Some table → length table ≡ length (cells_of (world_of spec.now)) }
+/// The list as an answer, whose pieces are its first line and each table behind its number. Each table is let go as soon as its text is made, so
+/// that the tables and the whole text never stand in memory together.
+fn list_answer(alloc: Global, spec: &Spec, mut tables: Tables) -> Result<Answer, AllocError>
+    requires { (k : ℕ) (table : List ℕ) → slice_get tables k ≡ Some table → length table ≡ length (cells_of (world_of spec.now)) }
     ensures status { IfOk result (λ answer. answer.status ≡ Status.Done) }
-    ensures text { IfOk result (λ answer. text_of answer ≡ list_text (world_of spec.now) tables.now) }
+    ensures text { IfOk result (λ answer. text_of answer ≡ list_text (world_of spec.now) tables) }
 {
     let count = tables.len();
     let mut pieces = Vec::new(alloc);
-    pieces.push(counted(alloc, "histories ", count)?)?;
-    for (place, table) in tables.as_slice().iter().enumerate() {
-        pieces.push(numbered(alloc, spec, place + 1, table)?)?;
+    while let Some(table) = tables.pop() {
+        pieces.push(numbered(alloc, spec, tables.len() + 1, &table)?)?;
     }
+    pieces.push(counted(alloc, "histories ", count)?)?;
+    pieces.reverse();
     Ok(Answer {
         status: Status::Done,
         pieces,
