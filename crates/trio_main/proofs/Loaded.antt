@@ -66,11 +66,14 @@ pub history_fault_caused : (before middle now : ShelfView) (s h : List ℕ) (spe
 history_fault_caused before middle now s h spec f reads later first cause = record {
   reads = 2;
   cause = cause_earlier before middle now (λ g. YieldsHistory (world_of spec) middle h (Err g)) (LoadFault before s h 2) f 1 reads
-      (λ g y. inr (refl, record {
-        spec = spec;
-        first = first;
-        second = yields_earlier (ReadsHistory (world_of spec)) text.History before middle h (Err g) 1 reads y;
-      })) cause;
+      (λ g y. inr (
+        refl,
+        record {
+          spec = spec;
+          first = first;
+          second = yields_earlier (ReadsHistory (world_of spec)) text.History before middle h (Err g) 1 reads y;
+        },
+      )) cause;
   fetched = omega (arith, reads.counts.at_most, later.counts.at_most);
 }
 

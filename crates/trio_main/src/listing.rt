@@ -52,12 +52,7 @@ fn list_answer(alloc: Global, spec: &Spec, mut tables: Tables) -> Result<Answer,
 }
 
 /// The text of a table behind its number.
-fn numbered(
-    alloc: Global,
-    spec: &Spec,
-    number: usize,
-    table: &Table,
-) -> Result<Vec<u8>, AllocError>
+fn numbered(alloc: Global, spec: &Spec, number: usize, table: &Table) -> Result<Vec<u8>, AllocError>
     requires { length table.now ≡ length (cells_of (world_of spec.now)) }
     ensures { IfOk result (λ piece. piece.items ≡ numbered_text (world_of spec.now) (number, table.now)) }
 {

@@ -71,8 +71,10 @@ fn completions_of_until(rt: HostRuntime) -> Result<(), Fail> {
 #[test]
 fn completions_of_the_transmission_line(rt: HostRuntime) -> Result<(), Fail> {
     let alloc = rt.alloc();
-    let spec = "time 10; domain msg = {a, b}; input sent(msg) : bool; item got(msg) : bool; axiom Pass : all m : msg (Dist(true, 5) -> (sent(m) <-> Dist(got(m), 5))); axiom Start : all m : msg (!Dist(true, -5) -> !got(m)); axiom One : !(sent(a) & sent(b));";
-    let history = "sent(a): 1 0 0 ? 0 0 0 0 0 0\nsent(b): 0 0 ? ? 0 0 0 0 0 0\ngot(a): ? ? ? ? ? ? ? ? ? ?\ngot(b): ? ? ? ? ? ? ? ? ? ?\n";
+    let spec =
+        "time 10; domain msg = {a, b}; input sent(msg) : bool; item got(msg) : bool; axiom Pass : all m : msg (Dist(true, 5) -> (sent(m) <-> Dist(got(m), 5))); axiom Start : all m : msg (!Dist(true, -5) -> !got(m)); axiom One : !(sent(a) & sent(b));";
+    let history =
+        "sent(a): 1 0 0 ? 0 0 0 0 0 0\nsent(b): 0 0 ? ? 0 0 0 0 0 0\ngot(a): ? ? ? ? ? ? ? ? ? ?\ngot(b): ? ? ? ? ? ? ? ? ? ?\n";
     let mut want = String::from_str(alloc, "0 histories 6\n")?;
     // What is not known of sent(a) at 3, and of sent(b) at 2 and at 3.
     let known = ["000", "001", "010", "011", "100", "110"];
@@ -80,10 +82,12 @@ fn completions_of_the_transmission_line(rt: HostRuntime) -> Result<(), Fail> {
         let number = place + 1;
         let (a3, rest) = digits.split_at(1);
         let (b2, b3) = rest.split_at(1);
-        let sent =
-            format!(in alloc; "sent(a): 1 0 0 {a3} 0 0 0 0 0 0\nsent(b): 0 0 {b2} {b3} 0 0 0 0 0 0\n")?;
-        let got =
-            format!(in alloc; "got(a): 0 0 0 0 0 1 0 0 {a3} 0\ngot(b): 0 0 0 0 0 0 0 {b2} {b3} 0\n")?;
+        let sent = format!(in alloc;
+            "sent(a): 1 0 0 {a3} 0 0 0 0 0 0\nsent(b): 0 0 {b2} {b3} 0 0 0 0 0 0\n"
+        )?;
+        let got = format!(in alloc;
+            "got(a): 0 0 0 0 0 1 0 0 {a3} 0\ngot(b): 0 0 0 0 0 0 0 {b2} {b3} 0\n"
+        )?;
         let text = format!(in alloc; "history {number}\n{sent}{got}")?;
         want.push_str(text.as_str())?;
     }

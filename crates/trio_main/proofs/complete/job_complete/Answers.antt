@@ -16,8 +16,11 @@ returns-in_err-problem-clause-ends g c =
     let s = c.args.spec.now in
     let h = c.args.history.now in
     rw (p.1, p.2)
-    (inr (load_cause_answers (Some (command.Complete s h)) before now s h c.in_err-problem.field-0.0 (load_fault_due before s h) (omega arith)
-    c.in_err-problem.ensures.loads, refl))
+    (inr (
+      load_cause_answers (Some (command.Complete s h)) before now s h c.in_err-problem.field-0.0 (load_fault_due before s h) (omega arith)
+          c.in_err-problem.ensures.loads,
+      refl,
+    ))
 
 pub give_list-requires : goal.give_list-requires
 give_list-requires g c =
