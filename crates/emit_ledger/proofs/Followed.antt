@@ -10,7 +10,7 @@ use Rattle.std.proofs.lemmas.List.Sums.{sum_by-cons, sum_by-append, sum_by_push,
 use Rattle.std.proofs.lemmas.List.Elements.{All-nil, All-cons, All-head, All-tail, All-append, All-push, All-pop, Contains-push_cases}
 use Rattle.trio_lists.specs.Multisets.{Permutes}
 use Rattle.trio_lists.proofs.Permuted.{sum_by-flat_map, permutes_from, permutes_back, permutes_on}
-use Rattle.trio_lists.proofs.Grouped.{sum_by-map, sum_by-flat_map_append, sum_by-flat_map_push}
+use Rattle.emit_ledger.proofs.Grouped.{sum_by-map, sum_by-flat_map_append, sum_by-flat_map_push}
 use Rattle.branch_state.specs.declared.branch.Branch.{Branch}
 use Rattle.branch_state.specs.Posed.{Posed}
 use Rattle.branch_state.specs.Branches.{reps, reps_all, Fits}

@@ -3,7 +3,7 @@ use Rattle.std.proofs.Common.{◌≡◌, ℕ, ◌-◌, List, [], ◌∷◌, ◌+
 use Rattle.std.specs.List.{sum_by}
 use Rattle.std.proofs.lemmas.List.Sums.{sum_by-append}
 use Rattle.std.proofs.lemmas.List.Elements.{All-nil, All-cons, All-append, All-take}
-use Rattle.trio_lists.proofs.Grouped.{sum_by-flat_map_append, sum_by-flat_map_push, last_apart}
+use Rattle.emit_ledger.proofs.Grouped.{sum_by-flat_map_append, sum_by-flat_map_push, last_apart}
 use Rattle.branch_state.specs.declared.branch.Branch.{Branch}
 use Rattle.branch_state.specs.Posed.{Posed}
 use Rattle.branch_state.specs.Branches.{reps, reps_all, Fits}

@@ -1,3 +1,4 @@
 -- The lemmas of the crate.
+pub mod Grouped
 pub mod Joined
 pub mod Followed

@@ -1,5 +1,4 @@
 -- The lemmas of the crate.
 pub mod Permuted
 pub mod Filters
-pub mod Grouped
 pub mod Unique

@@ -8,15 +8,14 @@ use Rattle.history_check.specs.declared.checker.Verdict.TheVariants as verdict
 use Rattle.history_check.specs.Answers.{verdict_of}
 use Rattle.trio_main.specs.declared.answer.Answer.{Answer}
 use Rattle.trio_main.specs.declared.status.Status.TheVariants as status
-use Rattle.trio_main.specs.declared.fault.Text.TheVariants as text
 use Rattle.trio_main.specs.declared.fault.Fault.{Fault}
 use Rattle.trio_main.specs.declared.command.Command.TheVariants as command
 use Rattle.trio_main.specs.Fault.{status_of}
 use Rattle.trio_main.specs.Message.{message}
-use Rattle.trio_main.specs.Load.{ReadsHistory, YieldsSpec, YieldsHistory, LoadFault}
+use Rattle.trio_main.specs.Load.{YieldsSpec, YieldsHistory, LoadFault}
 use Rattle.trio_main.specs.Check.{CheckFault, CheckDue, Judges, verdict_status}
 use Rattle.trio_main.specs.Answer.{Computes}
-use Rattle.trio_main.proofs.Loaded.{yields_earlier}
+use Rattle.trio_main.proofs.Loaded.{loaded_earlier}
 
 fault_due : (shelf : ShelfView) (s h : List ℕ) (reads : ℕ) (f : Fault) → CheckFault shelf s h reads f →
     CheckDue shelf s h reads (status_of f) (message f)
@@ -42,10 +41,7 @@ judged_computes before middle now s h spec given (Ok answer) reads later first s
     v = verdict_of (first_false spec judges.table);
     verdict = record {
       table = judges.table;
-      loaded = record {
-        first = first;
-        second = rw judges.known at (yields_earlier (ReadsHistory (world_of spec)) text.History before middle h (Ok given) 1 reads second);
-      };
+      loaded = rw judges.known at (loaded_earlier before middle s h spec given reads first second);
       is = refl;
     };
     says = judges.says;
@@ -63,10 +59,7 @@ judged_computes before middle now s h spec given (Err f) reads later first secon
     record {
       spec = spec;
       given = given;
-      loaded = record {
-        first = first;
-        second = yields_earlier (ReadsHistory (world_of spec)) text.History before middle h (Ok given) 1 reads second;
-      };
+      loaded = loaded_earlier before middle s h spec given reads first second;
       unknown = unknown;
     },
   ));

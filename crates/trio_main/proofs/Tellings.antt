@@ -16,16 +16,21 @@ use Rattle.trio_main.specs.Tell.{Tells, GivesDue}
 use Rattle.trio_main.proofs.FileFaults.{IsDueStatus}
 use Rattle.trio_main.proofs.CheckTold.{check_status, check_read_text}
 use Rattle.trio_main.proofs.CheckOne.{check_one}
+use Rattle.trio_main.proofs.CompleteTold.{complete_status, complete_read_text}
+use Rattle.trio_main.proofs.CompleteOne.{complete_one}
 
 -- of each command: the statuses of an answer due, and its text where a file is not there
 due_status : (c : Command) (shelf : ShelfView) (n : ℕ) (s : Status) (text : List ℕ) → Due (Some c) shelf n s text → IsDueStatus s
 due_status (command.Check spec_name history_name) shelf n s text due = check_status shelf spec_name history_name n s text due
+due_status (command.Complete spec_name history_name) shelf n s text due = complete_status shelf spec_name history_name n s text due
 
 due_read_text : (c : Command) (shelf : ShelfView) (n : ℕ) (text : List ℕ) → Due (Some c) shelf n status.ReadFault text → text ≡ message fault.Read
 due_read_text (command.Check spec_name history_name) shelf n text due = check_read_text shelf spec_name history_name n text due
+due_read_text (command.Complete spec_name history_name) shelf n text due = complete_read_text shelf spec_name history_name n text due
 
 reads_some : (c : Command) (shelf : ShelfView) (n : ℕ) (text : List ℕ) → Due (Some c) shelf n status.ReadFault text → 0 < files_read (Some c)
 reads_some (command.Check spec_name history_name) shelf n text due = omega arith
+reads_some (command.Complete spec_name history_name) shelf n text due = omega arith
 
 -- no answer is a failed write
 due_no_write : (asked : Option Command) (shelf : ShelfView) (n : ℕ) (text : List ℕ) → Due asked shelf n status.WriteFault text → ⊥
@@ -100,6 +105,8 @@ module _ (one_spec : OneSpecification) (one_fault : OneFault) (none : FaultyIsNo
   due_one None shelf m n s t x y told a b = (a.status_is ∙ sym b.status_is, a.text_is ∙ sym b.text_is)
   due_one (Some (command.Check spec_name history_name)) shelf m n s t x y told a b =
       check_one one_spec one_fault none one_history shelf spec_name history_name m n s t x y told a b
+  due_one (Some (command.Complete spec_name history_name)) shelf m n s t x y told a b =
+      complete_one one_spec one_fault none one_history shelf spec_name history_name m n s t x y told a b
 
   given_due : (asked : Option Command) (before now : ShelfView) (old new : SinkView) (n : ℕ) (r s t : Status) (x y : List ℕ) →
       Answers asked before now s x → r ≡ s → Writes old new x → before.tells ≡ true → Due asked before n t y →

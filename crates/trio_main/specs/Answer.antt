@@ -46,6 +46,10 @@ abbrev pub Gives : Status → List ℕ → SinkView → SinkView → Result Stat
 Gives s text old new (Ok given) = (given ≡ s) × Writes old new text
 Gives s text old new (Err f) = (f ≡ fault.Write) × WritesPart old new text
 
+-- the same of a text that is made as it goes out, or memory was wanting before the first write
+abbrev pub GivesOrWants : Status → List ℕ → SinkView → SinkView → Result Status Fault → Type 0
+GivesOrWants s text old new r = Gives s text old new r ⊎ ((r ≡ Err fault.Memory) × (new ≡ old))
+
 -- an answer whose writing failed
 pub record IsBroken (asked : Option Command) (before now : ShelfView) (old new : SinkView) : Type 0 where
   pub status : Status

@@ -7,6 +7,7 @@ use Rattle.trio_main.specs.declared.command.Command.{Command}
 use Rattle.trio_main.specs.declared.command.Command.TheVariants as command
 use Rattle.trio_main.specs.Message.{usage_line}
 use Rattle.trio_main.specs.Check.{CheckDue}
+use Rattle.trio_main.specs.Complete.{CompleteDue}
 
 -- the usage line, for words that are no command
 pub record UsageDue (reads : ℕ) (s : Status) (text : List ℕ) : Type 0 where
@@ -17,3 +18,4 @@ pub record UsageDue (reads : ℕ) (s : Status) (text : List ℕ) : Type 0 where
 abbrev pub Due : Option Command → ShelfView → ℕ → Status → List ℕ → Type 0
 Due None shelf = UsageDue
 Due (Some (command.Check spec_name history_name)) shelf = CheckDue shelf spec_name history_name
+Due (Some (command.Complete spec_name history_name)) shelf = CompleteDue shelf spec_name history_name

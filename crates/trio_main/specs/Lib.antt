@@ -1,6 +1,7 @@
 pub mod Answer
 pub mod Check
 pub mod Command
+pub mod Complete
 pub mod Due
 pub mod Fault
 pub mod Load

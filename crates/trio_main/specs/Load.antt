@@ -1,5 +1,5 @@
 -- What the file under a name yields: a value, or a fault.
-use Rattle.std.specs.Prelude.{◌≡◌, ◌≢◌, ℕ, ◌≤◌, ◌⊎◌, List, length, Option, None, Some, Result, Ok, Err}
+use Rattle.std.specs.Prelude.{◌≡◌, ◌≢◌, ℕ, ◌+◌, ◌≤◌, ◌⊎◌, List, length, Option, None, Some, Result, Ok, Err}
 use Rattle.trio_base.specs.declared.limits.TheConstants.{MOST_SPEC_BYTES, MOST_HISTORY_BYTES}
 use Rattle.trio_io.specs.Outside.{ShelfView, Holds, IsLonger, Rose}
 use Rattle.trio_types.specs.declared.spec.Spec.{Spec}
@@ -11,6 +11,8 @@ use Rattle.trio_reader.specs.Reading.{IsSpecText, HasFault}
 use Rattle.history_table.specs.declared.fault.HistFault.{HistFault}
 use Rattle.history_table.specs.declared.fault.HistFault.TheVariants as history_fault
 use Rattle.history_table.specs.History.{IsHistoryAnswer}
+use Rattle.derived_ops.specs.Rewritten.{IsRewriting}
+use Rattle.branch_state.specs.Posed.{Posed}
 use Rattle.trio_main.specs.declared.fault.Text.{Text}
 use Rattle.trio_main.specs.declared.fault.Text.TheVariants as text
 use Rattle.trio_main.specs.declared.fault.Fault.{Fault}
@@ -78,6 +80,22 @@ abbrev pub HasCause : ShelfView → ShelfView → (Fault → Type 0) → Fault �
 HasCause before now cause f =
     ((f ≡ fault.Read) × Rose before.counts.failed_fetches now.counts.failed_fetches)
     ⊎ ((f ≡ fault.Memory) ⊎ (cause f × (f ≡ fault.Read → Rose before.counts.absences now.counts.absences)))
+
+-- why two files are no specification and history, with no more files fetched than it takes to know it
+pub record LoadCause (before now : ShelfView) (spec_name history_name : List ℕ) (f : Fault) : Type 0 where
+  pub reads : ℕ
+  pub cause : HasCause before now (LoadFault before spec_name history_name reads) f
+  pub fetched : now.counts.calls ≤ before.counts.calls + reads
+
+-- the problem that the two files pose: its core is the rewritten specification
+pub record IsLoadedProblem (shelf : ShelfView) (spec_name history_name : List ℕ) (p : Posed) : Type 0 where
+  pub loaded : IsLoaded shelf spec_name history_name p.spec p.given
+  pub rewritten : IsRewriting p.core p.spec
+
+-- what loading a problem ends with
+abbrev pub LoadsProblem : ShelfView → ShelfView → List ℕ → List ℕ → Result Posed Fault → Type 0
+LoadsProblem before now spec_name history_name (Ok p) = IsLoadedProblem before spec_name history_name p
+LoadsProblem before now spec_name history_name (Err f) = LoadCause before now spec_name history_name f
 
 -- what loading ends with: what the file yields, or a fault with its cause
 abbrev pub Loads : {X : Type 0} → ShelfView → ShelfView → (Result X Fault → Type 0) → Result X Fault → Type 0

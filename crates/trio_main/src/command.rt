@@ -10,6 +10,8 @@ use trio_base::Name;
 pub enum Command {
     /// Whether a history satisfies a specification: the names of the specification's and the history's file.
     Check(Name, Name),
+    /// Every complete history that extends a given one and satisfies a specification: the names of the specification's and the history's file.
+    Complete(Name, Name),
 }
 
 /// Why words are no command.
@@ -36,13 +38,19 @@ fn read_three(alloc: Global, word: &str, spec: &str, history: &str) -> Result<Co
     ensures ok { IfOk result (λ command. command_of (word.now ∷ spec.now ∷ history.now ∷ []) ≡ Some command) }
     ensures usage { result ≡ Err WordsFault.Usage → command_of (word.now ∷ spec.now ∷ history.now ∷ []) ≡ None }
 {
-    let is_check = word == "check" && is_file_name(spec) && is_file_name(history);
-    if !is_check {
+    if !is_file_name(spec) || !is_file_name(history) {
+        return Err(WordsFault::Usage);
+    }
+    let is_check = word == "check";
+    if !is_check && word != "complete" {
         return Err(WordsFault::Usage);
     }
     let spec = Name::new(alloc, spec).map_err(|_| WordsFault::Memory)?;
     let history = Name::new(alloc, history).map_err(|_| WordsFault::Memory)?;
-    Ok(Command::Check(spec, history))
+    if is_check {
+        return Ok(Command::Check(spec, history));
+    }
+    Ok(Command::Complete(spec, history))
 }
 
 /// Whether a word names a file: it is not empty and does not begin with `--`.

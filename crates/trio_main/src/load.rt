@@ -3,9 +3,11 @@ ghost use Rattle.std.specs.Prelude.{◌≡◌, ◌≤◌, length, Some, IfOk, If
 ghost use Rattle.trio_io.specs.Outside.{OnlyReads, Holds};
 ghost use Rattle.trio_types.specs.Verdict.{world_of};
 ghost use Rattle.history_table.specs.Fitting.{IsGiven};
-ghost use Rattle.trio_main.specs.Load.{limit_of, FileFault, YieldsSpec, YieldsHistory, HasCause, Loads};
+ghost use Rattle.trio_main.specs.Load.{limit_of, FileFault, YieldsSpec, YieldsHistory, HasCause, Loads, LoadsProblem};
 
 use crate::fault::{Fault, Text};
+use branch_state::{Problem, pose};
+use derived_ops::rewrite;
 use history_table::{Given, read_history};
 use std::alloc::Global;
 use trio_base::Name;
@@ -72,5 +74,23 @@ pub fn load_history<F: Shelf>(
     match read_history(alloc, spec, bytes.as_slice()) {
         Ok(given) => Ok(given),
         Err(fault) => Err(Fault::of_history(alloc, spec, fault)),
+    }
+}
+
+/// The problem that a specification in one file and a given history in another pose. Its core is the specification's axioms, rewritten.
+pub fn load<F: Shelf>(
+    alloc: Global,
+    shelf: &mut F,
+    spec_name: &Name,
+    history_name: &Name,
+) -> Result<Problem, Fault>
+    ensures reads { OnlyReads 2 (F.seen shelf.old) (F.seen shelf.new) }
+    ensures loads { LoadsProblem (F.seen shelf.old) (F.seen shelf.new) spec_name.now history_name.now result }
+{
+    let spec = load_spec(alloc, shelf, spec_name)?;
+    let given = load_history(alloc, shelf, &spec, history_name)?;
+    match rewrite(alloc, &spec) {
+        Ok(core) => Ok(pose(spec, core, given)),
+        Err(_) => Err(Fault::Memory),
     }
 }

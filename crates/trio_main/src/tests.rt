@@ -9,6 +9,7 @@ ghost use Rattle.trio_main.specs.declared.status.Status.{Status};
 ghost use Rattle.trio_main.specs.Command.{words_of, command_of};
 ghost use Rattle.trio_main.specs.Due.{Due};
 
+mod complete_rows;
 mod history_rows;
 mod made_texts;
 mod operator_rows;
@@ -143,7 +144,14 @@ fn words_that_are_no_command(rt: HostRuntime) -> Result<(), Fail> {
         "Check s h",
         "--check s h",
         "_ s h",
-        "complete s h",
+        "complete",
+        "complete s",
+        "complete s h x",
+        "complete s --h",
+        "complete _ h",
+        "complete s h --limit=2",
+        "complete --workers=1 s h",
+        "Complete s h",
         "s h check",
         "--help",
         "--version",
@@ -170,6 +178,10 @@ fn fetches_that_fail(rt: HostRuntime) -> Result<(), Fail> {
         (2, "check h h ~ s h ~ 4 refused spec syntax 0\n"),
         (0, "check s s ~ s h ~ 4 refused history syntax 1\n"),
         (0, "check - -x ~ s h ~ 5 fault read\n"),
+        (1, "complete s h ~ s h ~ 5 fault read\n"),
+        (2, "complete s h ~ s h ~ 5 fault read\n"),
+        (0, "complete s h ~ h ~ 5 fault read\n"),
+        (0, "complete s h ~ s ~ 5 fault read\n"),
     ];
     for (failing, row) in rows {
         let (line, rest) = cut(row);

@@ -5,9 +5,11 @@ ghost use Rattle.trio_main.specs.Message.{usage_line};
 ghost use Rattle.trio_main.specs.Answer.{Said, Ends, Finishes};
 ghost use Rattle.trio_main.specs.Tell.{Tells, GivesDue, Leaves};
 ghost use Rattle.trio_main.specs.Check.{TellsCheck};
+ghost use Rattle.trio_main.specs.Complete.{TellsComplete};
 
 use crate::check::job_check;
 use crate::command::{Command, WordsFault, read_words};
+use crate::complete::job_complete;
 use crate::fault::Fault;
 use crate::message::say;
 use crate::status::Status;
@@ -46,6 +48,7 @@ pub fn trio_plain<F: Shelf, K: Sink, B: Bell>(
 
     // What a status tells of a command, in words of its own.
     ensures check { TellsCheck (command_of (words_of words.now)) (F.seen shelf.old) (F.seen shelf.new) (K.seen out.old) (K.seen out.new) result }
+    ensures complete { TellsComplete (command_of (words_of words.now)) (F.seen shelf.old) (F.seen shelf.new) (K.seen out.old) (K.seen out.new) result }
 
     // What a call leaves: every file but one that the command saves, and a bell that is not armed. It has the shelf called at most as often as
     // the words have places of files.
@@ -107,5 +110,6 @@ fn job<F: Shelf, K: Sink>(
 {
     match command {
         Command::Check(spec, history) => job_check(alloc, shelf, out, spec, history),
+        Command::Complete(spec, history) => job_complete(alloc, shelf, out, spec, history),
     }
 }

@@ -4,7 +4,7 @@ use Rattle.std.specs.List.{sum_by, All}
 use Rattle.std.proofs.lemmas.Nat.{pow_pos, pow-add}
 use Rattle.std.proofs.lemmas.List.Sums.{sum_by-cons, sum_by-append, sum_by_push}
 use Rattle.std.proofs.lemmas.List.Elements.{All-head, All-tail}
-use Rattle.trio_lists.proofs.Grouped.{last_apart}
+use Rattle.emit_ledger.proofs.Grouped.{last_apart}
 use Rattle.branch_state.specs.declared.branch.Branch.{Branch}
 use Rattle.branch_state.specs.Posed.{Posed}
 use Rattle.branch_state.specs.Weight.{weight, bulk}

@@ -9,7 +9,7 @@ use Rattle.std.proofs.lemmas.List.Sums.{sum_by-append, sum_by_more, sum_by-take-
 use Rattle.std.proofs.lemmas.List.Elements.{All-nil}
 use Rattle.trio_lists.specs.Multisets.{Permutes}
 use Rattle.trio_lists.proofs.Permuted.{permutes_from}
-use Rattle.trio_lists.proofs.Grouped.{sum_by-flat_map_push}
+use Rattle.emit_ledger.proofs.Grouped.{sum_by-flat_map_push}
 use Rattle.trio_lists.proofs.Unique.{unique, sorted_strictly, lexical}
 use Rattle.branch_state.specs.declared.branch.Branch.{Branch}
 use Rattle.branch_state.specs.Posed.{Posed, IsPosed}

@@ -2,26 +2,33 @@
 use Rattle.std.proofs.Common.{Some, arith}
 use Rattle.trio_main.specs.declared.command.Command.TheVariants as command
 use Rattle.std.proofs.lemmas.Result.{err_from_is_err_and}
-use Rattle.trio_main.proofs.Loaded.{spec_fault_answers, history_fault_answers}
+use Rattle.trio_main.proofs.Loaded.{load_cause_answers, spec_fault_caused, history_fault_caused}
 use Rattle.trio_main.proofs.Checks.{load_fault_due, judged_computes}
 use Rattle.trio_main.proofs.check.check_answer.Goals as goal
 
 pub returns-in_err-spec-clause-computes : goal.returns-in_err-spec-clause-computes
 returns-in_err-spec-clause-computes g c =
     let p = err_from_is_err_and c.from_residual.result c.from_residual.ensures.1 in
+    let before = g.F.Shelf.seen c.args.shelf.now in
+    let now = g.F.Shelf.seen c.load_spec.new.shelf in
+    let s = c.args.spec_name.now in
+    let h = c.args.history_name.now in
     rw (p.1, p.2)
-    (spec_fault_answers (Some (command.Check c.args.spec_name.now c.args.history_name.now)) (g.F.Shelf.seen c.args.shelf.now) (g.F.Shelf.seen c.load_spec.new.shelf) c.args.spec_name.now c.args.history_name.now
-    c.in_err-spec.field-0.0
-    (load_fault_due (g.F.Shelf.seen c.args.shelf.now) c.args.spec_name.now c.args.history_name.now) (omega arith) c.in_err-spec.ensures.reads c.in_err-spec.ensures.loads)
+    (load_cause_answers (Some (command.Check s h)) before now s h c.in_err-spec.field-0.0 (load_fault_due before s h) (omega arith)
+    (spec_fault_caused before now s h c.in_err-spec.field-0.0 c.in_err-spec.ensures.reads c.in_err-spec.ensures.loads))
 
 pub returns-in_err-given-clause-computes : goal.returns-in_err-given-clause-computes
 returns-in_err-given-clause-computes g c =
     let p = err_from_is_err_and c.from_residual-in_err-given.result c.from_residual-in_err-given.ensures.1 in
+    let before = g.F.Shelf.seen c.args.shelf.now in
+    let middle = g.F.Shelf.seen c.load_spec.new.shelf in
+    let now = g.F.Shelf.seen c.load_history.new.shelf in
+    let s = c.args.spec_name.now in
+    let h = c.args.history_name.now in
     rw (p.1, p.2)
-    (history_fault_answers (Some (command.Check c.args.spec_name.now c.args.history_name.now)) (g.F.Shelf.seen c.args.shelf.now) (g.F.Shelf.seen c.load_spec.new.shelf) (g.F.Shelf.seen c.load_history.new.shelf)
-    c.args.spec_name.now c.args.history_name.now c.in_ok-spec.spec c.in_err-given.field-0.0
-    (load_fault_due (g.F.Shelf.seen c.args.shelf.now) c.args.spec_name.now c.args.history_name.now) (omega arith) c.in_ok-spec.ensures.reads c.in_err-given.ensures.reads
-    c.in_ok-spec.ensures.loads c.in_err-given.ensures.loads)
+    (load_cause_answers (Some (command.Check s h)) before now s h c.in_err-given.field-0.0 (load_fault_due before s h) (omega arith)
+    (history_fault_caused before middle now s h c.in_ok-spec.spec c.in_err-given.field-0.0 c.in_ok-spec.ensures.reads
+    c.in_err-given.ensures.reads c.in_ok-spec.ensures.loads c.in_err-given.ensures.loads))
 
 pub returns-clause-computes : goal.returns-clause-computes
 returns-clause-computes g c =

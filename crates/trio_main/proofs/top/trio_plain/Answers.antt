@@ -1,5 +1,6 @@
 -- What each status tells is read off the one answer.
 use Rattle.trio_main.proofs.CheckTold.{tells_check}
+use Rattle.trio_main.proofs.CompleteTold.{tells_complete}
 use Rattle.trio_main.proofs.Tellings.{tells, none_ends, gives_due}
 use Rattle.trio_main.proofs.top.trio_plain.Goals as goal
 
@@ -16,3 +17,6 @@ returns-clause-no_command g c = none_ends _ _ _ _ _ c.run.result c.run.ensures.a
 
 pub returns-clause-check : goal.returns-clause-check
 returns-clause-check g c = tells_check _ _ _ _ _ c.run.result c.run.ensures.answer
+
+pub returns-clause-complete : goal.returns-clause-complete
+returns-clause-complete g c = tells_complete _ _ _ _ _ c.run.result c.run.ensures.answer

@@ -1,0 +1,33 @@
+//! `complete`: every complete history that extends a given one and satisfies the specification.
+ghost use Rattle.std.specs.Prelude.{Some};
+ghost use Rattle.trio_io.specs.Outside.{OnlyReads};
+ghost use Rattle.trio_main.specs.Answer.{Ends};
+ghost use Rattle.trio_main.specs.declared.command.Command.{Command};
+
+use crate::fault::Fault;
+use crate::listing::give_list;
+use crate::load::load;
+use crate::status::Status;
+use std::alloc::Global;
+use trio_base::Name;
+use trio_io::{Shelf, Sink};
+use trio_workers::all_models;
+
+/// Writes the list of the complete histories that extend the given history in one file and satisfy the specification in another. The fault that
+/// comes back is still to be said, but for `Write`.
+pub fn job_complete<F: Shelf, K: Sink>(
+    alloc: Global,
+    shelf: &mut F,
+    out: &mut K,
+    spec: &Name,
+    history: &Name,
+) -> Result<Status, Fault>
+    ensures reads { OnlyReads 2 (F.seen shelf.old) (F.seen shelf.new) }
+    ensures ends { Ends (Some (Command.Complete spec.now history.now)) (F.seen shelf.old) (F.seen shelf.new) (K.seen out.old) (K.seen out.new) result }
+{
+    let problem = load(alloc, shelf, spec, history)?;
+    match all_models(alloc, &problem) {
+        Ok(found) => give_list(alloc, out, &problem.spec, found),
+        Err(_) => Err(Fault::Memory),
+    }
+}

@@ -1,0 +1,168 @@
+//! Worked rows on `complete`.
+
+use super::*;
+
+const TRUE_AHEAD: &str = "time 3; item p : bool; axiom A : Dist(true, 1) & p -> Futr(p, 1);";
+
+/// The answer of `complete s h` into this sink.
+fn completed_into(
+    alloc: Global,
+    spec: &str,
+    history: &str,
+    out: MemSink,
+) -> Result<Vec<u8>, AllocError> {
+    let files = two_files(alloc, spec.as_bytes(), history.as_bytes())?;
+    answered(alloc, "complete s h", files, Counts::new(alloc), out)
+}
+
+/// Asserts the answer in the last column for the specification and the history in the others.
+fn complete_row(rt: &(impl Abort + AllocGlobal), row: &str) -> Result<(), Fail> {
+    let alloc = rt.alloc();
+    let (spec, rest) = cut(row);
+    let (history, want) = cut(rest);
+    let answer = completed_into(alloc, spec, history, ample(alloc)?)?;
+    assert_eq!(rt; answer.as_slice(), want.as_bytes(), "{row}");
+    Ok(())
+}
+
+#[test]
+fn lists_of_completions(rt: HostRuntime) -> Result<(), Fail> {
+    let rows = [
+        "time 3; item p : bool; axiom A : p -> Futr(p, 1); ~ p: ? ? ?\n ~ 0 histories 1\nhistory 1\np: 0 0 0\n",
+        "time 3; item p : bool; axiom A : Dist(true, 1) & p -> Futr(p, 1); ~ p: ? ? ?\n ~ 0 histories 4\nhistory 1\np: 0 0 0\nhistory 2\np: 0 0 1\nhistory 3\np: 0 1 1\nhistory 4\np: 1 1 1\n",
+        "time 1; item p : bool; axiom A : p & !p; ~ p: ? ~ 0 histories 0\n",
+        "time 3; item p : bool; axiom A : Dist(true, 1) & p -> Futr(p, 1); ~ p: 0 1 1 ~ 0 histories 1\nhistory 1\np: 0 1 1\n",
+        "time 3; item p : bool; axiom A : Dist(true, 1) & p -> Futr(p, 1); ~ p: 1 0 0 ~ 0 histories 0\n",
+        "time 1; axiom A : true; ~  ~ 0 histories 1\nhistory 1\n",
+        "time 1; axiom A : false; ~  ~ 0 histories 0\n",
+        "time 1; domain c = {red, blue}; domain k = -1..0; item q(c) : k; axiom A : q(red) < q(blue); ~ q(blue): ?\nq(red): ? ~ 0 histories 1\nhistory 1\nq(red): -1\nq(blue): 0\n",
+    ];
+    for row in rows {
+        complete_row(&rt, row)?;
+    }
+    Ok(())
+}
+
+/// The text of the 40 histories in which `Until(p, q)` is true at 0: q at 1, or p at 1 and q at 2.
+fn until_text(alloc: Global) -> Result<String, AllocError> {
+    let mut text = String::from_str(alloc, "0 histories 40\n")?;
+    let mut number = 0_u32;
+    for bits in 0..64_u32 {
+        let [a, b, c] = [bits >> 5 & 1, bits >> 4 & 1, bits >> 3 & 1];
+        let [d, e, f] = [bits >> 2 & 1, bits >> 1 & 1, bits & 1];
+        if e == 1 || (b == 1 && f == 1) {
+            number = number.saturating_add(1);
+            let history = format!(in alloc; "history {number}\np: {a} {b} {c}\nq: {d} {e} {f}\n")?;
+            text.push_str(history.as_str())?;
+        }
+    }
+    Ok(text)
+}
+
+#[test]
+fn completions_of_until(rt: HostRuntime) -> Result<(), Fail> {
+    let alloc = rt.alloc();
+    let spec = "time 3; item p : bool; item q : bool; axiom A at 0 : Until(p, q);";
+    let answer = completed_into(alloc, spec, "p: ? ? ?\nq: ? ? ?", ample(alloc)?)?;
+    assert_eq!(rt; answer.as_slice(), until_text(alloc)?.as_bytes());
+    Ok(())
+}
+
+#[test]
+fn completions_of_the_transmission_line(rt: HostRuntime) -> Result<(), Fail> {
+    let alloc = rt.alloc();
+    let spec =
+        "time 10; domain msg = {a, b}; input sent(msg) : bool; item got(msg) : bool; axiom Pass : all m : msg (Dist(true, 5) -> (sent(m) <-> Dist(got(m), 5))); axiom Start : all m : msg (!Dist(true, -5) -> !got(m)); axiom One : !(sent(a) & sent(b));";
+    let history =
+        "sent(a): 1 0 0 ? 0 0 0 0 0 0\nsent(b): 0 0 ? ? 0 0 0 0 0 0\ngot(a): ? ? ? ? ? ? ? ? ? ?\ngot(b): ? ? ? ? ? ? ? ? ? ?\n";
+    let mut want = String::from_str(alloc, "0 histories 6\n")?;
+    // What is not known of sent(a) at 3, and of sent(b) at 2 and at 3.
+    let known = ["000", "001", "010", "011", "100", "110"];
+    for (place, digits) in known.iter().enumerate() {
+        let number = place + 1;
+        let (a3, rest) = digits.split_at(1);
+        let (b2, b3) = rest.split_at(1);
+        let sent = format!(in alloc;
+            "sent(a): 1 0 0 {a3} 0 0 0 0 0 0\nsent(b): 0 0 {b2} {b3} 0 0 0 0 0 0\n"
+        )?;
+        let got = format!(in alloc;
+            "got(a): 0 0 0 0 0 1 0 0 {a3} 0\ngot(b): 0 0 0 0 0 0 0 {b2} {b3} 0\n"
+        )?;
+        let text = format!(in alloc; "history {number}\n{sent}{got}")?;
+        want.push_str(text.as_str())?;
+    }
+    let answer = completed_into(alloc, spec, history, ample(alloc)?)?;
+    assert_eq!(rt; answer.as_slice(), want.as_bytes());
+    Ok(())
+}
+
+/// 64 cells have far more tables than can be gone over one by one.
+#[test]
+fn one_completion_of_many_cells(rt: HostRuntime) -> Result<(), Fail> {
+    let alloc = rt.alloc();
+    let mut history = String::from_str(alloc, "p:")?;
+    let mut want = String::from_str(alloc, "0 histories 1\nhistory 1\np:")?;
+    for _ in 0..64 {
+        history.push_str(" ?")?;
+        want.push_str(" 1")?;
+    }
+    want.push_str("\n")?;
+    let spec = "time 64; item p : bool; axiom A : p;";
+    let answer = completed_into(alloc, spec, history.as_str(), ample(alloc)?)?;
+    assert_eq!(rt; answer.as_slice(), want.as_bytes());
+    Ok(())
+}
+
+/// The first line is one write, and each history is one.
+#[test]
+fn lists_are_cut_between_pieces(rt: HostRuntime) -> Result<(), Fail> {
+    let alloc = rt.alloc();
+    let rows = [
+        (1, "6 "),
+        (2, "6 histories 4\n"),
+        (3, "6 histories 4\nhistory 1\np: 0 0 0\n"),
+        (
+            5,
+            "6 histories 4\nhistory 1\np: 0 0 0\nhistory 2\np: 0 0 1\nhistory 3\np: 0 1 1\n",
+        ),
+        (
+            6,
+            "0 histories 4\nhistory 1\np: 0 0 0\nhistory 2\np: 0 0 1\nhistory 3\np: 0 1 1\nhistory 4\np: 1 1 1\n",
+        ),
+    ];
+    for (failing, want) in rows {
+        let failing = Counts::from_slice(alloc, &[failing])?;
+        let out = MemSink::new(alloc, 4096, 4096, failing)?;
+        let answer = completed_into(alloc, TRUE_AHEAD, "p: ? ? ?\n", out)?;
+        assert_eq!(rt; answer.as_slice(), want.as_bytes());
+    }
+    Ok(())
+}
+
+#[test]
+fn texts_that_complete_refuses(rt: HostRuntime) -> Result<(), Fail> {
+    let rows = [
+        "time 3; item p bool; ~ p: ? ? ? ~ 4 refused spec syntax 5\n",
+        "time 3; item p : bool; axiom A : q; ~ p: 0 ? ~ 4 refused spec unknown 11\n",
+        "time 3; item p : bool; ~ p: 0 ? ~ 4 refused history length 1\n",
+        "time 3; item p : bool; ~ p: 0 ? 2 ~ 4 refused history value 1 3\n",
+        "time 3; item p : bool; ~  ~ 4 refused history missing p\n",
+    ];
+    for row in rows {
+        complete_row(&rt, row)?;
+    }
+    Ok(())
+}
+
+/// For runs in which one allocation fails: the answer is the list or want of memory.
+#[test]
+fn memory_may_run_out_in_a_list(rt: HostRuntime) {
+    let alloc = rt.alloc();
+    let want = "0 histories 1\nhistory 1\np: 0 1 1\n";
+    if let Ok(out) = ample(alloc) {
+        if let Ok(answer) = completed_into(alloc, TRUE_AHEAD, "p: 0 1 ?", out) {
+            let is_memory = answer.as_slice() == b"7 fault memory\n".as_slice();
+            assert!(rt; answer.as_slice() == want.as_bytes() || is_memory);
+        }
+    }
+}
