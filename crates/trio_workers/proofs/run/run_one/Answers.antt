@@ -1,5 +1,5 @@
 -- The answers to the goals of `run_one`.
-use Rattle.std.proofs.Common.{◌≡◌, ◌+◌, ◌<◌, ◌++◌, List, take, length, get_or, IsPermutation, subst, sym, ap, ◌∙◌, arith}
+use Rattle.std.proofs.Common.{◌≡◌, ◌<◌, ◌++◌, take, length, get_or, IsPermutation, subst, ap, ◌∙◌, arith}
 use Rattle.std.proofs.lemmas.List.{take_all}
 use Rattle.trio_lists.specs.Multisets.{Permutes}
 use Rattle.branch_state.specs.Branches.{reps_all}
@@ -18,8 +18,8 @@ returns-in_err-models-clause-steps g c =
       c.loop-start.invariant.spent,
       c.search.ensures.steps,
       within_spent c.args.problem.now c.args.starts i b
-      (subst (λ bs. i < length bs) c.as_slice-start-items.ensures c.loop-start-test.true)
-      (c.start-item.is ∙ ap (λ bs. get_or bs i b) c.as_slice-start-items.ensures),
+          (subst (λ bs. i < length bs) c.as_slice-start-items.ensures c.loop-start-test.true)
+          (c.start-item.is ∙ ap (λ bs. get_or bs i b) c.as_slice-start-items.ensures),
     )
 
 pub returns-in_err-append-clause-steps : goal.returns-in_err-append-clause-steps
@@ -31,8 +31,8 @@ returns-in_err-append-clause-steps g c =
       c.loop-start.invariant.spent,
       c.search.ensures.steps,
       within_spent c.args.problem.now c.args.starts i b
-      (subst (λ bs. i < length bs) c.as_slice-start-items.ensures c.loop-start-test.true)
-      (c.start-item.is ∙ ap (λ bs. get_or bs i b) c.as_slice-start-items.ensures),
+          (subst (λ bs. i < length bs) c.as_slice-start-items.ensures c.loop-start-test.true)
+          (c.start-item.is ∙ ap (λ bs. get_or bs i b) c.as_slice-start-items.ensures),
     )
 
 pub loop-start-preserved : goal.loop-start-preserved

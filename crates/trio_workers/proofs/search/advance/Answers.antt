@@ -18,6 +18,6 @@ returns-clause-fewer g c =
     ∙ c.get.ensures
     ∙ ap (λ b. Some b) (sym c.in_ok-last.ensures) in
     elim c.match-absorb.branch [
-      in-Ok w ↦ rw (w.result-is, w.in-Ok.ensures.ok) (bulk_absorbed region.problem region.given part.given last at fewer)
+      | in-Ok w ↦ rw (w.result-is, w.in-Ok.ensures.ok) (bulk_absorbed region.problem region.given part.given last at fewer)
       | in-Err w ↦ rw w.result-is tt
     ]
