@@ -1,5 +1,5 @@
--- What the code finds of a want, and settling by more or fewer steps.
-use Rattle.std.proofs.Common.{◌≡◌, ℕ, zero, suc, ◌<◌, ◌≤◌, ℤ, pos, negsuc, ◌+ℤ◌, ◌-ℤ◌, ◌≤ℤ◌, Bool, true, false, not, List, [], ◌∷◌, ◌++◌, All, Option, None, Some, length, reverse, slice_get, refl, sym, ap, ◌∙◌, subst, arith}
+-- What the code finds of a want, and how settling goes on from there.
+use Rattle.std.proofs.Common.{◌≡◌, ℕ, ◌<◌, ◌≤◌, ℤ, pos, negsuc, ◌+ℤ◌, ◌-ℤ◌, ◌≤ℤ◌, Bool, true, false, not, List, [], ◌∷◌, ◌++◌, All, Option, None, Some, length, reverse, slice_get, refl, sym, ap, ◌∙◌, subst, arith}
 use Rattle.std.proofs.lemmas.Int.{ints}
 use Rattle.std.proofs.lemmas.List.{reverse-append}
 use Rattle.std.proofs.lemmas.List.Elements.{All-head, All-tail, All-append}
@@ -19,71 +19,29 @@ use Rattle.branch_state.specs.declared.branch.Want.{Want}
 use Rattle.branch_state.specs.Posed.{Posed}
 use Rattle.branch_state.specs.Branches.{branch, WantFits}
 use Rattle.branch_state.specs.Weight.{want_weight}
-use Rattle.branch_state.proofs.Counted.{count_some}
 use Rattle.decompose.specs.declared.why.Why.TheVariants as why
-use Rattle.decompose.specs.Rule.{Fate, Refuted, Becomes, Parts, Cuts, Closed, Two, fate, fate_by, want_truth3, row, cut_for_atom, unwanted, settle_by, settle, wants_weight, settled}
+use Rattle.decompose.specs.Rule.{Fate, Refuted, Becomes, Parts, Cuts, Closed, Two, fate, fate_by, want_truth3, row, cut_for_atom, settle_by, wants_weight, settled}
 use Rattle.decompose.specs.declared.settlement.Settled.TheVariants as settled_code
 use Rattle.decompose.specs.Told.{CutsInside}
 use Rattle.decompose.proofs.Atoms.{fate_law}
 use Rattle.decompose.proofs.Cutting.{several_of}
+use Rattle.decompose.proofs.Enough.{settled_next}
 use Rattle.decompose.proofs.Rows.{FateLaw}
 
--- more steps than the wants weigh settle no further
-enough : (p : Posed) (sets : List ℕ) (f g : ℕ) (wants : List Want) → All (WantFits p) wants → wants_weight p wants ≤ f → wants_weight p wants ≤ g → settle p sets f wants ≡ settle p sets g wants
-unfolding settle
-enough p sets zero zero [] fits less more = refl
-enough p sets zero (suc g) [] fits less more = refl
-enough p sets (suc f) zero [] fits less more = refl
-enough p sets (suc f) (suc g) [] fits less more = refl
-enough p sets zero g (want ∷ wants) fits less more = absurd (omega (arith, less, sum_by-cons (want_weight p) want wants, count_some p.core.nodes want.node want.from))
-enough p sets (suc f) zero (want ∷ wants) fits less more = absurd (omega (arith, more, sum_by-cons (want_weight p) want wants, count_some p.core.nodes want.node want.from))
-enough p sets (suc f) (suc g) (want ∷ wants) fits less more =
-    by_fate (fate p sets want) (fate_law p sets want (All-head (WantFits p) want wants fits))
-    (λ new fit light. enough p sets f g (new ++ wants) (All-append (WantFits p) new wants fit (All-tail (WantFits p) want wants fits))
-    (omega (arith, less, light, sum_by-append (want_weight p) new wants, sum_by-cons (want_weight p) want wants))
-    (omega (arith, more, light, sum_by-append (want_weight p) new wants, sum_by-cons (want_weight p) want wants)))
-  where
-    by_fate : (x : Fate) → FateLaw p sets want x → ((new : List Want) → All (WantFits p) new → wants_weight p new < want_weight p want → settle p sets f (new ++ wants) ≡ settle p sets g (new ++ wants)) →
-        settle_by (settle p sets f) (world_of_core p.core) sets want wants x ≡ settle_by (settle p sets g) (world_of_core p.core) sets want wants x
-    by_fate Refuted law behind = refl
-    by_fate (Becomes new) law behind = behind new law.fit law.lighter
-    by_fate (Parts left right) law behind = refl
-    by_fate (Cuts cell) law behind = refl
-
--- what settling makes of a first want, by its fate
-first_by : (p : Posed) (sets : List ℕ) (f : ℕ) (want : Want) (wants : List Want) → wants_weight p (want ∷ wants) ≡ suc f →
-    settled p sets (want ∷ wants) ≡ settle_by (settle p sets f) (world_of_core p.core) sets want wants (fate p sets want)
-unfolding settle
-first_by p sets f want wants is = ap (λ n. settle p sets n (want ∷ wants)) is
-
-weighs_some : (p : Posed) (want : Want) (wants : List Want) → (f : ℕ) × (wants_weight p (want ∷ wants) ≡ suc f)
-weighs_some p want wants = at (wants_weight p (want ∷ wants)) refl
-  where
-    at : (n : ℕ) → wants_weight p (want ∷ wants) ≡ n → (f : ℕ) × (wants_weight p (want ∷ wants) ≡ suc f)
-    at zero is = absurd (omega (arith, is, sum_by-cons (want_weight p) want wants, count_some p.core.nodes want.node want.from))
-    at (suc f) is = (f, is)
-
-pub settled_none : (p : Posed) (sets : List ℕ) → settled p sets [] ≡ unwanted (world_of_core p.core) sets
-unfolding settle
-settled_none p sets = refl
-
 -- where settling ends at a first want
-pub settled_refuted : (p : Posed) (sets : List ℕ) (want : Want) (wants : List Want) → Refuted ≡ fate p sets want → Closed why.Want ≡ settled p sets (want ∷ wants)
-settled_refuted p sets want wants is =
-    let f = weighs_some p want wants in
-    sym (first_by p sets f.0 want wants f.1 ∙ ap (settle_by (settle p sets f.0) (world_of_core p.core) sets want wants) (sym is))
+pub settled_refuted : (p : Posed) (sets : List ℕ) (want : Want) (wants : List Want) → All (WantFits p) (want ∷ wants) → Refuted ≡ fate p sets want → Closed why.Want ≡ settled p sets (want ∷ wants)
+settled_refuted p sets want wants fits is =
+    sym (settled_next p sets want wants fits ∙ ap (settle_by (settled p sets) (world_of_core p.core) sets want wants) (sym is))
 
-pub settled_parts : (p : Posed) (sets : List ℕ) (want : Want) (wants left right : List Want) → Parts left right ≡ fate p sets want →
+pub settled_parts : (p : Posed) (sets : List ℕ) (want : Want) (wants left right : List Want) → All (WantFits p) (want ∷ wants) → Parts left right ≡ fate p sets want →
     Two (branch sets (left ++ wants)) (branch sets (right ++ wants)) ≡ settled p sets (want ∷ wants)
-settled_parts p sets want wants left right is =
-    let f = weighs_some p want wants in
-    sym (first_by p sets f.0 want wants f.1 ∙ ap (settle_by (settle p sets f.0) (world_of_core p.core) sets want wants) (sym is))
+settled_parts p sets want wants left right fits is =
+    sym (settled_next p sets want wants fits ∙ ap (settle_by (settled p sets) (world_of_core p.core) sets want wants) (sym is))
 
-pub settled_cuts : (p : Posed) (sets : List ℕ) (want : Want) (wants : List Want) (cell : Option ℕ) → Cuts cell ≡ fate p sets want →
+pub settled_cuts : (p : Posed) (sets : List ℕ) (want : Want) (wants : List Want) (cell : Option ℕ) → All (WantFits p) (want ∷ wants) → Cuts cell ≡ fate p sets want →
     cut_for_atom (world_of_core p.core) sets (want ∷ wants) cell ≡ settled p sets (want ∷ wants)
-settled_cuts p sets want wants cell is =
-    let f = weighs_some p want wants in
-    sym (first_by p sets f.0 want wants f.1 ∙ ap (settle_by (settle p sets f.0) (world_of_core p.core) sets want wants) (sym is))
+settled_cuts p sets want wants cell fits is =
+    sym (settled_next p sets want wants fits ∙ ap (settle_by (settled p sets) (world_of_core p.core) sets want wants) (sym is))
 
 -- where others take its place
 pub record Goes (p : Posed) (sets : List ℕ) (old new : List Want) : Type 0 where
@@ -93,14 +51,12 @@ pub record Goes (p : Posed) (sets : List ℕ) (old new : List Want) : Type 0 whe
 
 pub goes_on : (p : Posed) (sets : List ℕ) (want : Want) (wants new : List Want) → All (WantFits p) (want ∷ wants) → Becomes new ≡ fate p sets want → Goes p sets (want ∷ wants) (new ++ wants)
 goes_on p sets want wants new fits is =
-    let f = weighs_some p want wants in
     let law = subst (FateLaw p sets want) (sym is) (fate_law p sets want (All-head (WantFits p) want wants fits)) in
     let fit = All-append (WantFits p) new wants law.fit (All-tail (WantFits p) want wants fits) in
     let light : wants_weight p (new ++ wants) < wants_weight p (want ∷ wants) =
     omega (arith, law.lighter, sum_by-append (want_weight p) new wants, sum_by-cons (want_weight p) want wants) in
     record {
-      same = first_by p sets f.0 want wants f.1 ∙ ap (settle_by (settle p sets f.0) (world_of_core p.core) sets want wants) (sym is)
-          ∙ enough p sets f.0 (wants_weight p (new ++ wants)) (new ++ wants) fit (omega (arith, light, f.1)) (omega arith);
+      same = settled_next p sets want wants fits ∙ ap (settle_by (settled p sets) (world_of_core p.core) sets want wants) (sym is);
       lighter = light;
       fits = fit;
     }

@@ -6,7 +6,8 @@ use Rattle.branch_state.specs.declared.branch.Want.{Want}
 use Rattle.branch_state.specs.Branches.{WantFits}
 use Rattle.decompose.specs.Rule.{cut_for_atom, settled}
 use Rattle.decompose.specs.Told.{fate_told}
-use Rattle.decompose.proofs.Wanted.{Goes, turned_push, stack_goes, cuts_inside, settled_none, settled_refuted, settled_parts, settled_cuts}
+use Rattle.decompose.proofs.Wanted.{Goes, turned_push, stack_goes, cuts_inside, settled_refuted, settled_parts, settled_cuts}
+use Rattle.decompose.proofs.Enough.{settled_end}
 use Rattle.decompose.proofs.settlement.settle.Goals.{in-Dropped, in-One+in_ok-add-in-One, in-Both+in_ok-add-in-Both+in_ok-add-in-Both-2}
 use Rattle.decompose.proofs.settlement.settle.Goals as goal
 
@@ -26,7 +27,7 @@ returns-in-Refuted-clause-rule c =
     let want = c.in-Some.want in
     let rest = c.pop.new.self in
     let old = turned_push rest c.loop-want.stack want c.in-Some.ensures in
-    settled_refuted p sets want (reverse rest) (sym (ap fate_told c.in-Refuted.is) ∙ c.in_ok-fate_of.ensures)
+    settled_refuted p sets want (reverse rest) (subst (All (WantFits p)) old c.loop-want.invariant.fits) (sym (ap fate_told c.in-Refuted.is) ∙ c.in_ok-fate_of.ensures)
     ∙ ap (λ (l : List Want). settled p sets l) (sym old) ∙ c.loop-want.invariant.same
 
 pub returns-in-Parts-clause-rule : goal.returns-in-Parts-clause-rule
@@ -36,7 +37,7 @@ returns-in-Parts-clause-rule c =
     let want = c.in-Some.want in
     let rest = c.pop.new.self in
     let old = turned_push rest c.loop-want.stack want c.in-Some.ensures in
-    settled_parts p sets want (reverse rest) (c.in-Parts.left ∷ []) (c.in-Parts.first ∷ c.in-Parts.second ∷ []) (sym (ap fate_told c.in-Parts.is) ∙ c.in_ok-fate_of.ensures)
+    settled_parts p sets want (reverse rest) (c.in-Parts.left ∷ []) (c.in-Parts.first ∷ c.in-Parts.second ∷ []) (subst (All (WantFits p)) old c.loop-want.invariant.fits) (sym (ap fate_told c.in-Parts.is) ∙ c.in_ok-fate_of.ensures)
     ∙ ap (λ (l : List Want). settled p sets l) (sym old) ∙ c.loop-want.invariant.same
 
 pub returns-in-Cuts-clause-rule : goal.returns-in-Cuts-clause-rule
@@ -47,7 +48,7 @@ returns-in-Cuts-clause-rule c =
     let rest = c.pop.new.self in
     let old = turned_push rest c.loop-want.stack want c.in-Some.ensures in
     ap (λ (l : List Want). cut_for_atom (world_of_core p.core) sets l c.in-Cuts.cell) (turned_push rest c.add-in-Cuts.new.wants want c.in_ok-add-in-Cuts.ensures)
-    ∙ settled_cuts p sets want (reverse rest) c.in-Cuts.cell (sym (ap fate_told c.in-Cuts.is) ∙ c.in_ok-fate_of.ensures)
+    ∙ settled_cuts p sets want (reverse rest) c.in-Cuts.cell (subst (All (WantFits p)) old c.loop-want.invariant.fits) (sym (ap fate_told c.in-Cuts.is) ∙ c.in_ok-fate_of.ensures)
     ∙ ap (λ (l : List Want). settled p sets l) (sym old) ∙ c.loop-want.invariant.same
 
 pub returns-in-Cuts-clause-inside : goal.returns-in-Cuts-clause-inside
@@ -136,4 +137,4 @@ pub returns-clause-rule : goal.returns-clause-rule
 returns-clause-rule c =
     let p = c.args.problem.now in
     let sets = c.args.sets.now in
-    sym (settled_none p sets) ∙ ap (λ (l : List Want). settled p sets (reverse l)) (sym c.in_default.ensures.0) ∙ c.loop-want.invariant.same
+    sym (settled_end p sets) ∙ ap (λ (l : List Want). settled p sets (reverse l)) (sym c.in_default.ensures.0) ∙ c.loop-want.invariant.same
