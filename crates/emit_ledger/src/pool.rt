@@ -41,9 +41,7 @@ fn starts_at(slot: &Option<Region<'_>>, problem: &Problem, branch: &Branch) -> b
     ensures { IsTrue result ↔ StartsAt problem.now branch.now slot.now }
 {
     match slot {
-        Some(region) => {
-            same(region.start(), branch) && same_problem(region.problem(), problem)
-        }
+        Some(region) => { same(region.start(), branch) && same_problem(region.problem(), problem) }
         None => false,
     }
 }

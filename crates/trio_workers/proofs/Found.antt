@@ -1,7 +1,7 @@
 -- What is found.
-use Rattle.std.proofs.Common.{◌≡◌, ℕ, ◌+◌, ◌-◌, ◌^◌, ◌<◌, ◌≤◌, length, take, get_or, List, [], ◌∷◌, ◌++◌, sym, ap, ◌∙◌, subst, refl, arith}
+use Rattle.std.proofs.Common.{◌≡◌, ℕ, ◌+◌, ◌-◌, ◌^◌, ◌<◌, ◌≤◌, length, take, get_or, List, [], ◌∷◌, ◌++◌, ap, arith}
 use Rattle.std.specs.Cmp.Lexicographic.{slice_cmp}
-use Rattle.std.specs.List.{sum_by, All}
+use Rattle.std.specs.List.{sum_by}
 use Rattle.std.specs.List.Sorted.{IsPermutation}
 use Rattle.std.specs.Ordering.{nat_cmp}
 use Rattle.std.proofs.lemmas.List.{take_more}
@@ -12,14 +12,14 @@ use Rattle.trio_lists.proofs.Permuted.{permutes_from}
 use Rattle.emit_ledger.proofs.Grouped.{sum_by-flat_map_push}
 use Rattle.trio_lists.proofs.Unique.{unique, sorted_strictly, lexical}
 use Rattle.branch_state.specs.declared.branch.Branch.{Branch}
-use Rattle.branch_state.specs.Posed.{Posed, IsPosed}
+use Rattle.branch_state.specs.Posed.{Posed}
 use Rattle.branch_state.specs.Models.{models}
 use Rattle.branch_state.specs.Branches.{reps, reps_all, root_branch}
 use Rattle.branch_state.specs.Weight.{weight, bulk}
 use Rattle.branch_state.specs.Laws.{RootLaw}
 use Rattle.branch_state.proofs.Modeled.{models_sorted}
 use Rattle.emit_ledger.specs.Regions.{IsRegion}
-use Rattle.emit_ledger.specs.Assembly.{InOrder, Covers}
+use Rattle.emit_ledger.specs.Assembly.{Covers}
 use Rattle.trio_workers.specs.Runs.{WholeLaw}
 
 -- where a region gives nothing, its tables are the models of its start

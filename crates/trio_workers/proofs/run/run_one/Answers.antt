@@ -1,5 +1,5 @@
 -- The answers to the goals of `run_one`.
-use Rattle.std.proofs.Common.{◌≡◌, ◌+◌, ◌<◌, ◌++◌, List, take, length, get_or, IsPermutation, subst, sym, ap, ◌∙◌, arith}
+use Rattle.std.proofs.Common.{◌≡◌, ◌<◌, ◌++◌, take, length, get_or, IsPermutation, subst, ap, ◌∙◌, arith}
 use Rattle.std.proofs.lemmas.List.{take_all}
 use Rattle.trio_lists.specs.Multisets.{Permutes}
 use Rattle.branch_state.specs.Branches.{reps_all}
