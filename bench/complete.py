@@ -6,7 +6,8 @@
 NAME is one of the inputs below; all of them where none is given. Needs clingo (Debian's package `gringo`). Each input is made here. The
 numbered ones are rows of bools that, once true, stay true, each implied by the row before it. `line` is a line with three messages that passes
 each on after two instants, with quantifiers and distances; `trace` is a recorded history at the limit of 1,024 cells with two dozen unknown
-ones. A line of the result has: histories, seconds of both (the least of the runs), their ratio, peak memory of both, histories a second.
+ones; `free15` and `free16` list all values of as many bools, so that the second has twice the histories of the first. A line of the result has:
+histories, seconds of both (the least of the runs), their ratio, peak memory of both, histories a second.
 """
 import argparse
 import os
@@ -109,9 +110,18 @@ def trace():
     return spec, history, program
 
 
+def free(unknown):
+    """Bools of which nothing is said: every assignment is a history, so that one more cell makes twice as many."""
+    spec = [f"time {unknown};", "item p : bool;", "axiom A : p -> p;"]
+    history = ["p: " + "? " * unknown]
+    return spec, history, [f"time(0..{unknown - 1}).", "{p(T)} :- time(T).", "#show p/1."]
+
+
 INPUTS = {str(number): (lambda number=number: chains(number)) for number in (57, 99, 86, 115)}
 INPUTS["line"] = line
 INPUTS["trace"] = trace
+INPUTS["free15"] = lambda: free(15)
+INPUTS["free16"] = lambda: free(16)
 
 
 def timed(command, out):
