@@ -1,17 +1,18 @@
 //! The counts of formulas.
 
-ghost use Rattle.std.specs.Prelude.{◌≡◌, ◌+◌, ◌*◌, IfOk, OnOk};
+ghost use Rattle.std.specs.Prelude.{◌≡◌, ◌+◌, ◌*◌, max, IfOk, OnOk};
 ghost use Rattle.trio_limits.specs.Given.{given_count};
 ghost use Rattle.trio_limits.specs.Ground.{world_of_ground};
-ghost use Rattle.trio_limits.specs.Counting.{quantified_of, formulas_of};
+ghost use Rattle.trio_limits.specs.Counting.{quantified_of, formulas_of, bracketed, unbracketed};
 ghost use Rattle.trio_limits.specs.Counting as spec;
 ghost use Rattle.trio_types.specs.Instances as types;
+ghost use Rattle.trio_types.specs.declared.formula.Formula.TheVariants as formula;
 
 use crate::counts::{Counts, ListCounts};
 use crate::ground::Ground;
 use crate::terms::counts_of as term_counts_of;
 use std::alloc::AllocError;
-use trio_types::{FarOp, Formula};
+use trio_types::{FarOp, Formula, OneOp, Term};
 
 /// The counts of a formula, where these are the domains of the variables in whose bodies it stands; only want of memory refuses them.
 #[cycle(formulas)]
@@ -23,7 +24,6 @@ pub fn counts_of(
     ensures made { IfOk result (λ c. c ≡ spec.counts_of (world_of_ground ground.now) variables.old.items formula.now) }
     ensures kept { OnOk result (variables.new.items ≡ variables.old.items) }
 {
-    let instants = u64::from(ground.instants);
     match formula {
         Formula::Lone(term) => {
             let term = term_counts_of(ground, variables.as_slice(), term);
@@ -55,42 +55,81 @@ pub fn counts_of(
         Formula::Iff(left, right) => {
             let left = counts_of(ground, variables, left.get())?;
             let right = counts_of(ground, variables, right.get())?;
-            let instances = left.instances.saturating_add(right.instances);
-            Ok(Counts::bracketed(
-                left.bound.max(right.bound),
-                times_more(2, instances, 5),
-                left.grouped.max(right.grouped),
-            ))
+            Ok(equivalence(left, right))
         }
         Formula::All(_, domain, body) => quantified(ground, variables, *domain, body.get()),
         Formula::Ex(_, domain, body) => quantified(ground, variables, *domain, body.get()),
-        Formula::One(_, part) => {
-            let part = counts_of(ground, variables, part.get())?;
-            Ok(Counts::unbracketed(
-                part.bound,
-                times_more(instants, part.instances, 1),
-                part.plain.saturating_add(1),
-            ))
-        }
-        Formula::Far(op, part, distance) => {
-            let part = counts_of(ground, variables, part.get())?;
-            let distance = term_counts_of(ground, variables.as_slice(), distance);
-            Ok(Counts::unbracketed(
-                part.bound.max(distance.most),
-                far_instances(instants, *op, part.instances),
-                part.plain.max(distance.plain).saturating_add(1),
-            ))
-        }
+        Formula::One(op, part) => everywhere(ground, variables, *op, part.get()),
+        Formula::Far(op, part, distance) => far(ground, variables, *op, part.get(), distance),
         Formula::Pair(_, first, second) => {
             let first = counts_of(ground, variables, first.get())?;
             let second = counts_of(ground, variables, second.get())?;
-            Ok(Counts::unbracketed(
-                first.bound.max(second.bound),
-                pair_instances(instants, first.instances, second.instances),
-                first.plain.max(second.plain).saturating_add(1),
-            ))
+            Ok(pair(u64::from(ground.instants), first, second))
         }
     }
+}
+
+/// The counts of an equivalence of formulas with these, which asks each of them in both ways.
+fn equivalence(left: Counts, right: Counts) -> Counts
+    ensures { result ≡ bracketed (max left.bound right.bound) (given_count (2 * given_count (left.instances + right.instances) + 5)) (max left.grouped right.grouped) }
+{
+    let instances = left.instances.saturating_add(right.instances);
+    Counts::bracketed(
+        left.bound.max(right.bound),
+        times_more(2, instances, 5),
+        left.grouped.max(right.grouped),
+    )
+}
+
+/// The counts of an operator that asks the formula at every instant.
+#[cycle(formulas)]
+fn everywhere(
+    ground: &Ground<'_>,
+    variables: &mut Vec<u32>,
+    _op: OneOp,
+    part: &Formula,
+) -> Result<Counts, AllocError>
+    ensures made { IfOk result (λ c. c ≡ spec.counts_of (world_of_ground ground.now) variables.old.items (formula.One _op part.now)) }
+    ensures kept { OnOk result (variables.new.items ≡ variables.old.items) }
+{
+    let part = counts_of(ground, variables, part)?;
+    Ok(Counts::unbracketed(
+        part.bound,
+        times_more(u64::from(ground.instants), part.instances, 1),
+        part.plain.saturating_add(1),
+    ))
+}
+
+/// The counts of an operator at a distance.
+#[cycle(formulas)]
+fn far(
+    ground: &Ground<'_>,
+    variables: &mut Vec<u32>,
+    op: FarOp,
+    part: &Formula,
+    distance: &Term,
+) -> Result<Counts, AllocError>
+    ensures made { IfOk result (λ c. c ≡ spec.counts_of (world_of_ground ground.now) variables.old.items (formula.Far op part.now distance.now)) }
+    ensures kept { OnOk result (variables.new.items ≡ variables.old.items) }
+{
+    let part = counts_of(ground, variables, part)?;
+    let distance = term_counts_of(ground, variables.as_slice(), distance);
+    Ok(Counts::unbracketed(
+        part.bound.max(distance.most),
+        far_instances(u64::from(ground.instants), op, part.instances),
+        part.plain.max(distance.plain).saturating_add(1),
+    ))
+}
+
+/// The counts of an operator on two formulas with these, over this many instants.
+fn pair(instants: u64, first: Counts, second: Counts) -> Counts
+    ensures { result ≡ unbracketed (max first.bound second.bound) (given_count (instants * (second.instances + instants * first.instances + 2) + 1)) (given_count (max first.plain second.plain + 1)) }
+{
+    Counts::unbracketed(
+        first.bound.max(second.bound),
+        pair_instances(instants, first.instances, second.instances),
+        first.plain.max(second.plain).saturating_add(1),
+    )
 }
 
 /// The counts of a conjunction or disjunction.

@@ -1,5 +1,5 @@
 -- The answers to the goals of the counts of formulas.
-use Rattle.std.proofs.Common.{ap, ◌∙◌}
+use Rattle.std.proofs.Common.{ap, ◌∙◌, refl}
 use Rattle.trio_limits.specs.Ground.{world_of_ground}
 use Rattle.trio_limits.specs.Counting.{term_counts_of, counts_of}
 use Rattle.trio_limits.proofs.FormulaCounts.{counts-Lone, counts-Compare, counts-Not, counts-And, counts-Or, counts-Implies, counts-Iff, counts-All, counts-Ex, counts-One, counts-Far, counts-Pair, formulas_next}
@@ -40,12 +40,10 @@ counts_of-returns-in_ok-right-in-Implies-clause-made t c =
 
 pub counts_of-returns-in_ok-right-in-Iff-clause-made : goal.counts_of-returns-in_ok-right-in-Iff-clause-made
 counts_of-returns-in_ok-right-in-Iff-clause-made t c =
-    rw c.in-Iff.is (c.bracketed-in-Iff.ensures ∙ counts-Iff (world_of_ground c.args.ground.now) c.args.variables.now.items c.in-Iff.left c.in-Iff.right
+    rw c.in-Iff.is (c.equivalence.ensures ∙ counts-Iff (world_of_ground c.args.ground.now) c.args.variables.now.items c.in-Iff.left c.in-Iff.right
     c.in_ok-left-in-Iff.left c.in_ok-right-in-Iff.right (c.in_ok-left-in-Iff.ensures.made ∙ ap (counts_of (world_of_ground c.args.ground.now) c.args.variables.now.items) c.get-in-Iff.ensures)
     (c.in_ok-right-in-Iff.ensures.made ∙ ap (λ vs. counts_of (world_of_ground c.args.ground.now) vs c.get-in-Iff-2.result.now) c.in_ok-left-in-Iff.ensures.kept
-    ∙ ap (counts_of (world_of_ground c.args.ground.now) c.args.variables.now.items) c.get-in-Iff-2.ensures)
-    c.max-in-Iff.result c.saturating_add-instances-in-Iff.result c.times_more.result c.max-in-Iff-2.result c.max-in-Iff.ensures
-    c.saturating_add-instances-in-Iff.ensures c.times_more.ensures c.max-in-Iff-2.ensures)
+    ∙ ap (counts_of (world_of_ground c.args.ground.now) c.args.variables.now.items) c.get-in-Iff-2.ensures) _ _ _ _ refl refl refl refl)
 
 pub counts_of-returns-in-All-clause-made : goal.counts_of-returns-in-All-clause-made
 counts_of-returns-in-All-clause-made t c =
@@ -55,28 +53,31 @@ pub counts_of-returns-in-Ex-clause-made : goal.counts_of-returns-in-Ex-clause-ma
 counts_of-returns-in-Ex-clause-made t c =
     rw (c.in-Ex.is, ← counts-Ex (world_of_ground c.args.ground.now) c.args.variables.now.items c.in-Ex.field-0 c.in-Ex.domain c.in-Ex.body, ← c.get-in-Ex.ensures) c.quantified-in-Ex.ensures.made
 
-pub counts_of-returns-in_ok-part-in-One-clause-made : goal.counts_of-returns-in_ok-part-in-One-clause-made
-counts_of-returns-in_ok-part-in-One-clause-made t c =
-    rw c.in-One.is (c.unbracketed-in-One.ensures ∙ counts-One (world_of_ground c.args.ground.now) c.args.variables.now.items c.in-One.field-0 c.in-One.part c.in_ok-part-in-One.part
-    (c.in_ok-part-in-One.ensures.made ∙ ap (counts_of (world_of_ground c.args.ground.now) c.args.variables.now.items) c.get-in-One.ensures) c.from-instants.result c.times_more-in-One.result c.saturating_add-in-One.result c.from-instants.ensures
-    c.times_more-in-One.ensures c.saturating_add-in-One.ensures)
+pub counts_of-returns-in-One-clause-made : goal.counts_of-returns-in-One-clause-made
+counts_of-returns-in-One-clause-made t c = rw (c.in-One.is, ← c.get-in-One.ensures) c.everywhere.ensures.made
 
-pub counts_of-returns-in_ok-part-in-Far-clause-made : goal.counts_of-returns-in_ok-part-in-Far-clause-made
-counts_of-returns-in_ok-part-in-Far-clause-made t c =
-    rw c.in-Far.is (c.unbracketed-in-Far.ensures ∙ counts-Far (world_of_ground c.args.ground.now) c.args.variables.now.items c.in-Far.op c.in-Far.part c.in-Far.distance c.in_ok-part-in-Far.part
-    c.counts_of-distance.result (c.in_ok-part-in-Far.ensures.made ∙ ap (counts_of (world_of_ground c.args.ground.now) c.args.variables.now.items) c.get-in-Far.ensures)
-    (c.counts_of-distance.ensures ∙ ap (λ vs. term_counts_of (world_of_ground c.args.ground.now) vs c.in-Far.distance) (c.as_slice-in-Far.ensures.value ∙ c.in_ok-part-in-Far.ensures.kept)) c.from-instants.result c.max-in-Far.result
-    c.far_instances.result c.max-in-Far-2.result c.saturating_add-in-Far.result c.from-instants.ensures c.max-in-Far.ensures c.far_instances.ensures
-    c.max-in-Far-2.ensures c.saturating_add-in-Far.ensures)
+pub counts_of-returns-in-Far-clause-made : goal.counts_of-returns-in-Far-clause-made
+counts_of-returns-in-Far-clause-made t c = rw (c.in-Far.is, ← c.get-in-Far.ensures) c.far.ensures.made
 
 pub counts_of-returns-in_ok-second-in-Pair-clause-made : goal.counts_of-returns-in_ok-second-in-Pair-clause-made
 counts_of-returns-in_ok-second-in-Pair-clause-made t c =
-    rw c.in-Pair.is (c.unbracketed-in-Pair.ensures ∙ counts-Pair (world_of_ground c.args.ground.now) c.args.variables.now.items c.in-Pair.field-0 c.in-Pair.first c.in-Pair.second
+    rw c.in-Pair.is (c.pair.ensures ∙ counts-Pair (world_of_ground c.args.ground.now) c.args.variables.now.items c.in-Pair.field-0 c.in-Pair.first c.in-Pair.second
     c.in_ok-first-in-Pair.first c.in_ok-second-in-Pair.second (c.in_ok-first-in-Pair.ensures.made ∙ ap (counts_of (world_of_ground c.args.ground.now) c.args.variables.now.items) c.get-in-Pair.ensures)
     (c.in_ok-second-in-Pair.ensures.made ∙ ap (λ vs. counts_of (world_of_ground c.args.ground.now) vs c.get-in-Pair-2.result.now) c.in_ok-first-in-Pair.ensures.kept
-    ∙ ap (counts_of (world_of_ground c.args.ground.now) c.args.variables.now.items) c.get-in-Pair-2.ensures) c.from-instants.result c.max-in-Pair.result
-    c.pair_instances.result c.max-in-Pair-2.result c.saturating_add-in-Pair.result c.from-instants.ensures c.max-in-Pair.ensures c.pair_instances.ensures
-    c.max-in-Pair-2.ensures c.saturating_add-in-Pair.ensures)
+    ∙ ap (counts_of (world_of_ground c.args.ground.now) c.args.variables.now.items) c.get-in-Pair-2.ensures) c.from.result _ _ _ _ c.from.ensures refl refl refl refl)
+
+pub everywhere-returns-clause-made : goal.everywhere-returns-clause-made
+everywhere-returns-clause-made t c =
+    c.unbracketed.ensures ∙ counts-One (world_of_ground c.args.ground.now) c.args.variables.now.items c.args._op c.args.part.now c.in_ok-part.part
+    c.in_ok-part.ensures.made c.from.result c.times_more.result c.saturating_add.result c.from.ensures c.times_more.ensures c.saturating_add.ensures
+
+pub far-returns-clause-made : goal.far-returns-clause-made
+far-returns-clause-made t c =
+    c.unbracketed.ensures ∙ counts-Far (world_of_ground c.args.ground.now) c.args.variables.now.items c.args.op c.args.part.now c.args.distance.now c.in_ok-part.part
+    c.counts_of-distance.result c.in_ok-part.ensures.made
+    (c.counts_of-distance.ensures ∙ ap (λ vs. term_counts_of (world_of_ground c.args.ground.now) vs c.args.distance.now) (c.as_slice.ensures.value ∙ c.in_ok-part.ensures.kept)) c.from.result c.max.result
+    c.far_instances.result c.max-2.result c.saturating_add.result c.from.ensures c.max.ensures c.far_instances.ensures
+    c.max-2.ensures c.saturating_add.ensures
 
 pub all_counts-loop-formula-preserved : goal.all_counts-loop-formula-preserved
 all_counts-loop-formula-preserved t c = (
