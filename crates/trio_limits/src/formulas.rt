@@ -45,12 +45,7 @@ pub fn counts_of(
         Formula::Implies(left, right) => {
             let left = counts_of(ground, variables, left.get())?;
             let right = counts_of(ground, variables, right.get())?;
-            let instances = left.instances.saturating_add(right.instances);
-            Ok(Counts::bracketed(
-                left.bound.max(right.bound),
-                instances.saturating_add(1),
-                left.grouped.max(right.grouped),
-            ))
+            Ok(implication(left, right))
         }
         Formula::Iff(left, right) => {
             let left = counts_of(ground, variables, left.get())?;
@@ -67,6 +62,18 @@ pub fn counts_of(
             Ok(pair(u64::from(ground.instants), first, second))
         }
     }
+}
+
+/// The counts of an implication between formulas with these.
+fn implication(left: Counts, right: Counts) -> Counts
+    ensures { result ≡ bracketed (max left.bound right.bound) (given_count (given_count (left.instances + right.instances) + 1)) (max left.grouped right.grouped) }
+{
+    let instances = left.instances.saturating_add(right.instances);
+    Counts::bracketed(
+        left.bound.max(right.bound),
+        instances.saturating_add(1),
+        left.grouped.max(right.grouped),
+    )
 }
 
 /// The counts of an equivalence of formulas with these, which asks each of them in both ways.

@@ -31,12 +31,10 @@ counts_of-returns-in-Or-clause-made t c =
 
 pub counts_of-returns-in_ok-right-in-Implies-clause-made : goal.counts_of-returns-in_ok-right-in-Implies-clause-made
 counts_of-returns-in_ok-right-in-Implies-clause-made t c =
-    rw c.in-Implies.is (c.bracketed-in-Implies.ensures ∙ counts-Implies (world_of_ground c.args.ground.now) c.args.variables.now.items c.in-Implies.left c.in-Implies.right
+    rw c.in-Implies.is (c.implication.ensures ∙ counts-Implies (world_of_ground c.args.ground.now) c.args.variables.now.items c.in-Implies.left c.in-Implies.right
     c.in_ok-left-in-Implies.left c.in_ok-right-in-Implies.right (c.in_ok-left-in-Implies.ensures.made ∙ ap (counts_of (world_of_ground c.args.ground.now) c.args.variables.now.items) c.get-in-Implies.ensures)
     (c.in_ok-right-in-Implies.ensures.made ∙ ap (λ vs. counts_of (world_of_ground c.args.ground.now) vs c.get-in-Implies-2.result.now) c.in_ok-left-in-Implies.ensures.kept
-    ∙ ap (counts_of (world_of_ground c.args.ground.now) c.args.variables.now.items) c.get-in-Implies-2.ensures)
-    c.max-in-Implies.result c.saturating_add-instances-in-Implies.result c.saturating_add.result c.max-in-Implies-2.result c.max-in-Implies.ensures
-    c.saturating_add-instances-in-Implies.ensures c.saturating_add.ensures c.max-in-Implies-2.ensures)
+    ∙ ap (counts_of (world_of_ground c.args.ground.now) c.args.variables.now.items) c.get-in-Implies-2.ensures) _ _ _ _ refl refl refl refl)
 
 pub counts_of-returns-in_ok-right-in-Iff-clause-made : goal.counts_of-returns-in_ok-right-in-Iff-clause-made
 counts_of-returns-in_ok-right-in-Iff-clause-made t c =
