@@ -85,20 +85,16 @@ fn node_truth(under: &Interpretation<'_>, node: u32, from: u32, instant: u32) ->
             compare(*rel, left, right)
         }
         Node::Not(part) => opposite(node_truth(under, *part, 0, instant)),
-        Node::And(left, right) => {
-            let first = node_truth(under, *left, 0, instant);
-            if let Three::False = first {
-                return first;
-            }
-            both(first, node_truth(under, *right, 0, instant))
-        }
-        Node::Or(left, right) => {
-            let first = node_truth(under, *left, 0, instant);
-            if let Three::True = first {
-                return first;
-            }
-            either(first, node_truth(under, *right, 0, instant))
-        }
+        Node::And(left, right) => match node_truth(under, *left, 0, instant) {
+            Three::False => Three::False,
+            Three::Unknown => both(Three::Unknown, node_truth(under, *right, 0, instant)),
+            Three::True => node_truth(under, *right, 0, instant),
+        },
+        Node::Or(left, right) => match node_truth(under, *left, 0, instant) {
+            Three::False => node_truth(under, *right, 0, instant),
+            Three::Unknown => either(Three::Unknown, node_truth(under, *right, 0, instant)),
+            Three::True => Three::True,
+        },
         Node::Exists(low, high, part) => for_some(under, *low, *high, *part, from, instant),
         Node::Dist(part, distance) => {
             let Known::One(distance) = quick_value(under, distance, instant) else {

@@ -7,6 +7,7 @@ use Rattle.trio_types.proofs.Specs.{few_instants}
 use Rattle.trio_types.specs.Parts.{declarations_of}
 use Rattle.trio_core.specs.declared.nodes.Node.TheVariants as node
 use Rattle.trio_core.specs.declared.nodes.Three.{Three}
+use Rattle.trio_core.specs.declared.nodes.Three.TheVariants as three
 use Rattle.trio_core.specs.Core.{numbers}
 use Rattle.trio_core.specs.Three.{known_at, value3, not3, and3, or3, any3, relates3, core_truth3}
 use Rattle.trio_core.specs.Stands.{world_of_core, NodeAsked}
@@ -159,41 +160,35 @@ node_truth-node_truth-requires t c =
     let part = part_asked core a (node.Not c.in-Not.part) at 0 c.in-Not.part refl i e inside lie in
     (omega (arith, part.before, c.decreases), (c.requires.sets_fit, part.asked))
 
-pub node_truth-node_truth-first-requires : goal.node_truth-node_truth-first-requires
-node_truth-node_truth-first-requires t c =
-    let core = c.args.under.now.core.now in
-    let e = c.args.under.now.values.now in
-    let i = c.args.instant in
-    let a = c.args.node in
-    let lie = c.requires.asked.values_in in
-    let inside = c.requires.asked.inside in
-    let at = c.get.ensures ∙ ap Some c.in-And.is in
-    let left = part_asked core a (node.And c.in-And.left c.in-And.right) at 0 c.in-And.left refl i e inside lie in
-    (omega (arith, left.before, c.decreases), (c.requires.sets_fit, left.asked))
-
 pub node_truth-node_truth-requires-in-And : goal.node_truth-node_truth-requires-in-And
 node_truth-node_truth-requires-in-And t c =
     let core = c.args.under.now.core.now in
     let e = c.args.under.now.values.now in
     let i = c.args.instant in
     let a = c.args.node in
-    let lie = c.requires.asked.values_in in
-    let inside = c.requires.asked.inside in
     let at = c.get.ensures ∙ ap Some c.in-And.is in
-    let right = part_asked core a (node.And c.in-And.left c.in-And.right) at 1 c.in-And.right refl i e inside lie in
-    (omega (arith, right.before, c.decreases), (c.requires.sets_fit, right.asked))
+    let part = part_asked core a (node.And c.in-And.left c.in-And.right) at 0 c.in-And.left refl i e c.requires.asked.inside c.requires.asked.values_in in
+    (omega (arith, part.before, c.decreases), (c.requires.sets_fit, part.asked))
 
-pub node_truth-node_truth-first-requires-in-Or : goal.node_truth-node_truth-first-requires-in-Or
-node_truth-node_truth-first-requires-in-Or t c =
+pub node_truth-node_truth-requires-in-Unknown : goal.node_truth-node_truth-requires-in-Unknown
+node_truth-node_truth-requires-in-Unknown t c =
     let core = c.args.under.now.core.now in
     let e = c.args.under.now.values.now in
     let i = c.args.instant in
     let a = c.args.node in
-    let lie = c.requires.asked.values_in in
-    let inside = c.requires.asked.inside in
-    let at = c.get.ensures ∙ ap Some c.in-Or.is in
-    let left = part_asked core a (node.Or c.in-Or.left c.in-Or.right) at 0 c.in-Or.left refl i e inside lie in
-    (omega (arith, left.before, c.decreases), (c.requires.sets_fit, left.asked))
+    let at = c.get.ensures ∙ ap Some c.in-And.is in
+    let part = part_asked core a (node.And c.in-And.left c.in-And.right) at 1 c.in-And.right refl i e c.requires.asked.inside c.requires.asked.values_in in
+    (omega (arith, part.before, c.decreases), (c.requires.sets_fit, part.asked))
+
+pub node_truth-node_truth-requires-in-True : goal.node_truth-node_truth-requires-in-True
+node_truth-node_truth-requires-in-True t c =
+    let core = c.args.under.now.core.now in
+    let e = c.args.under.now.values.now in
+    let i = c.args.instant in
+    let a = c.args.node in
+    let at = c.get.ensures ∙ ap Some c.in-And.is in
+    let part = part_asked core a (node.And c.in-And.left c.in-And.right) at 1 c.in-And.right refl i e c.requires.asked.inside c.requires.asked.values_in in
+    (omega (arith, part.before, c.decreases), (c.requires.sets_fit, part.asked))
 
 pub node_truth-node_truth-requires-in-Or : goal.node_truth-node_truth-requires-in-Or
 node_truth-node_truth-requires-in-Or t c =
@@ -201,11 +196,29 @@ node_truth-node_truth-requires-in-Or t c =
     let e = c.args.under.now.values.now in
     let i = c.args.instant in
     let a = c.args.node in
-    let lie = c.requires.asked.values_in in
-    let inside = c.requires.asked.inside in
     let at = c.get.ensures ∙ ap Some c.in-Or.is in
-    let right = part_asked core a (node.Or c.in-Or.left c.in-Or.right) at 1 c.in-Or.right refl i e inside lie in
-    (omega (arith, right.before, c.decreases), (c.requires.sets_fit, right.asked))
+    let part = part_asked core a (node.Or c.in-Or.left c.in-Or.right) at 0 c.in-Or.left refl i e c.requires.asked.inside c.requires.asked.values_in in
+    (omega (arith, part.before, c.decreases), (c.requires.sets_fit, part.asked))
+
+pub node_truth-node_truth-requires-in-False-node_truth : goal.node_truth-node_truth-requires-in-False-node_truth
+node_truth-node_truth-requires-in-False-node_truth t c =
+    let core = c.args.under.now.core.now in
+    let e = c.args.under.now.values.now in
+    let i = c.args.instant in
+    let a = c.args.node in
+    let at = c.get.ensures ∙ ap Some c.in-Or.is in
+    let part = part_asked core a (node.Or c.in-Or.left c.in-Or.right) at 1 c.in-Or.right refl i e c.requires.asked.inside c.requires.asked.values_in in
+    (omega (arith, part.before, c.decreases), (c.requires.sets_fit, part.asked))
+
+pub node_truth-node_truth-requires-in-Unknown-node_truth : goal.node_truth-node_truth-requires-in-Unknown-node_truth
+node_truth-node_truth-requires-in-Unknown-node_truth t c =
+    let core = c.args.under.now.core.now in
+    let e = c.args.under.now.values.now in
+    let i = c.args.instant in
+    let a = c.args.node in
+    let at = c.get.ensures ∙ ap Some c.in-Or.is in
+    let part = part_asked core a (node.Or c.in-Or.left c.in-Or.right) at 1 c.in-Or.right refl i e c.requires.asked.inside c.requires.asked.values_in in
+    (omega (arith, part.before, c.decreases), (c.requires.sets_fit, part.asked))
 
 pub node_truth-for_some-requires : goal.node_truth-for_some-requires
 node_truth-for_some-requires t c =
@@ -249,7 +262,7 @@ node_truth-unreachable-requires t c =
     let p = c.in-Dist.part in
     let x = c.in-Dist.distance in
     let k = dist_known core a p x e sets i at lie in
-    c.in_default-quick_value.not-One k.0 (c.quick_value.ensures ∙ k.1)
+    c.in_default.not-One k.0 (c.quick_value.ensures ∙ k.1)
 
 pub node_truth-overflow_add-target : goal.node_truth-overflow_add-target
 node_truth-overflow_add-target t c =
@@ -345,14 +358,17 @@ node_truth-returns-in-False t c =
     let a = c.args.node in
     let lie = c.requires.asked.values_in in
     let inside = c.requires.asked.inside in
+    let l = c.in-And.left in
+    let r = c.in-And.right in
     let at = c.get.ensures ∙ ap Some c.in-And.is in
-    let left = part_asked core a (node.And c.in-And.left c.in-And.right) at 0 c.in-And.left refl i e inside lie in
-    let right = part_asked core a (node.And c.in-And.left c.in-And.right) at 1 c.in-And.right refl i e inside lie in
-    let stops = sym c.node_truth-first.ensures ∙ c.in-False.is in
-    c.in-False.is ∙ sym (ap (λ f. and3 f (core_truth3 w nodes c.in-And.right 0 e sets i)) stops) ∙ sym (eval_and w nodes a c.args.from c.in-And.left c.in-And.right e sets i at left.before right.before)
+    let left = part_asked core a (node.And l r) at 0 l refl i e inside lie in
+    let right = part_asked core a (node.And l r) at 1 r refl i e inside lie in
+    let whole = eval_and w nodes a c.args.from l r e sets i at left.before right.before in
+    let first = sym c.node_truth-in-And.ensures ∙ c.in-False.is in
+    refl ∙ sym (whole ∙ ap (λ f. and3 f (core_truth3 w nodes r 0 e sets i)) first)
 
-pub node_truth-returns-in_default : goal.node_truth-returns-in_default
-node_truth-returns-in_default t c =
+pub node_truth-returns-in-Unknown : goal.node_truth-returns-in-Unknown
+node_truth-returns-in-Unknown t c =
     let core = c.args.under.now.core.now in
     let w = world_of_core core in
     let nodes = core.nodes in
@@ -362,10 +378,14 @@ node_truth-returns-in_default t c =
     let a = c.args.node in
     let lie = c.requires.asked.values_in in
     let inside = c.requires.asked.inside in
+    let l = c.in-And.left in
+    let r = c.in-And.right in
     let at = c.get.ensures ∙ ap Some c.in-And.is in
-    let left = part_asked core a (node.And c.in-And.left c.in-And.right) at 0 c.in-And.left refl i e inside lie in
-    let right = part_asked core a (node.And c.in-And.left c.in-And.right) at 1 c.in-And.right refl i e inside lie in
-    c.both.ensures ∙ ap (λ f. and3 f c.node_truth-in-And.result) c.node_truth-first.ensures ∙ ap (and3 (core_truth3 w nodes c.in-And.left 0 e sets i)) c.node_truth-in-And.ensures ∙ sym (eval_and w nodes a c.args.from c.in-And.left c.in-And.right e sets i at left.before right.before)
+    let left = part_asked core a (node.And l r) at 0 l refl i e inside lie in
+    let right = part_asked core a (node.And l r) at 1 r refl i e inside lie in
+    let whole = eval_and w nodes a c.args.from l r e sets i at left.before right.before in
+    let first = sym c.node_truth-in-And.ensures ∙ c.in-Unknown.is in
+    c.both.ensures ∙ ap (and3 three.Unknown) c.node_truth-in-Unknown.ensures ∙ sym (whole ∙ ap (λ f. and3 f (core_truth3 w nodes r 0 e sets i)) first)
 
 pub node_truth-returns-in-True : goal.node_truth-returns-in-True
 node_truth-returns-in-True t c =
@@ -378,14 +398,17 @@ node_truth-returns-in-True t c =
     let a = c.args.node in
     let lie = c.requires.asked.values_in in
     let inside = c.requires.asked.inside in
-    let at = c.get.ensures ∙ ap Some c.in-Or.is in
-    let left = part_asked core a (node.Or c.in-Or.left c.in-Or.right) at 0 c.in-Or.left refl i e inside lie in
-    let right = part_asked core a (node.Or c.in-Or.left c.in-Or.right) at 1 c.in-Or.right refl i e inside lie in
-    let stops = sym c.node_truth-first-in-Or.ensures ∙ c.in-True.is in
-    c.in-True.is ∙ sym (ap (λ f. or3 f (core_truth3 w nodes c.in-Or.right 0 e sets i)) stops) ∙ sym (eval_or w nodes a c.args.from c.in-Or.left c.in-Or.right e sets i at left.before right.before)
+    let l = c.in-And.left in
+    let r = c.in-And.right in
+    let at = c.get.ensures ∙ ap Some c.in-And.is in
+    let left = part_asked core a (node.And l r) at 0 l refl i e inside lie in
+    let right = part_asked core a (node.And l r) at 1 r refl i e inside lie in
+    let whole = eval_and w nodes a c.args.from l r e sets i at left.before right.before in
+    let first = sym c.node_truth-in-And.ensures ∙ c.in-True.is in
+    c.node_truth-in-True.ensures ∙ sym (whole ∙ ap (λ f. and3 f (core_truth3 w nodes r 0 e sets i)) first)
 
-pub node_truth-returns-in_default-first : goal.node_truth-returns-in_default-first
-node_truth-returns-in_default-first t c =
+pub node_truth-returns-in-False-node_truth : goal.node_truth-returns-in-False-node_truth
+node_truth-returns-in-False-node_truth t c =
     let core = c.args.under.now.core.now in
     let w = world_of_core core in
     let nodes = core.nodes in
@@ -395,10 +418,54 @@ node_truth-returns-in_default-first t c =
     let a = c.args.node in
     let lie = c.requires.asked.values_in in
     let inside = c.requires.asked.inside in
+    let l = c.in-Or.left in
+    let r = c.in-Or.right in
     let at = c.get.ensures ∙ ap Some c.in-Or.is in
-    let left = part_asked core a (node.Or c.in-Or.left c.in-Or.right) at 0 c.in-Or.left refl i e inside lie in
-    let right = part_asked core a (node.Or c.in-Or.left c.in-Or.right) at 1 c.in-Or.right refl i e inside lie in
-    c.either.ensures ∙ ap (λ f. or3 f c.node_truth-in-Or.result) c.node_truth-first-in-Or.ensures ∙ ap (or3 (core_truth3 w nodes c.in-Or.left 0 e sets i)) c.node_truth-in-Or.ensures ∙ sym (eval_or w nodes a c.args.from c.in-Or.left c.in-Or.right e sets i at left.before right.before)
+    let left = part_asked core a (node.Or l r) at 0 l refl i e inside lie in
+    let right = part_asked core a (node.Or l r) at 1 r refl i e inside lie in
+    let whole = eval_or w nodes a c.args.from l r e sets i at left.before right.before in
+    let first = sym c.node_truth-in-Or.ensures ∙ c.in-False-node_truth.is in
+    c.node_truth-in-False-node_truth.ensures ∙ sym (whole ∙ ap (λ f. or3 f (core_truth3 w nodes r 0 e sets i)) first)
+
+pub node_truth-returns-in-Unknown-node_truth : goal.node_truth-returns-in-Unknown-node_truth
+node_truth-returns-in-Unknown-node_truth t c =
+    let core = c.args.under.now.core.now in
+    let w = world_of_core core in
+    let nodes = core.nodes in
+    let sets = c.args.under.now.doms.now in
+    let e = c.args.under.now.values.now in
+    let i = c.args.instant in
+    let a = c.args.node in
+    let lie = c.requires.asked.values_in in
+    let inside = c.requires.asked.inside in
+    let l = c.in-Or.left in
+    let r = c.in-Or.right in
+    let at = c.get.ensures ∙ ap Some c.in-Or.is in
+    let left = part_asked core a (node.Or l r) at 0 l refl i e inside lie in
+    let right = part_asked core a (node.Or l r) at 1 r refl i e inside lie in
+    let whole = eval_or w nodes a c.args.from l r e sets i at left.before right.before in
+    let first = sym c.node_truth-in-Or.ensures ∙ c.in-Unknown-node_truth.is in
+    c.either.ensures ∙ ap (or3 three.Unknown) c.node_truth-in-Unknown-node_truth.ensures ∙ sym (whole ∙ ap (λ f. or3 f (core_truth3 w nodes r 0 e sets i)) first)
+
+pub node_truth-returns-in-True-node_truth : goal.node_truth-returns-in-True-node_truth
+node_truth-returns-in-True-node_truth t c =
+    let core = c.args.under.now.core.now in
+    let w = world_of_core core in
+    let nodes = core.nodes in
+    let sets = c.args.under.now.doms.now in
+    let e = c.args.under.now.values.now in
+    let i = c.args.instant in
+    let a = c.args.node in
+    let lie = c.requires.asked.values_in in
+    let inside = c.requires.asked.inside in
+    let l = c.in-Or.left in
+    let r = c.in-Or.right in
+    let at = c.get.ensures ∙ ap Some c.in-Or.is in
+    let left = part_asked core a (node.Or l r) at 0 l refl i e inside lie in
+    let right = part_asked core a (node.Or l r) at 1 r refl i e inside lie in
+    let whole = eval_or w nodes a c.args.from l r e sets i at left.before right.before in
+    let first = sym c.node_truth-in-Or.ensures ∙ c.in-True-node_truth.is in
+    refl ∙ sym (whole ∙ ap (λ f. or3 f (core_truth3 w nodes r 0 e sets i)) first)
 
 pub node_truth-returns-in-Exists : goal.node_truth-returns-in-Exists
 node_truth-returns-in-Exists t c =
