@@ -26,6 +26,7 @@ pub(crate) fn quick_value(under: &Interpretation<'_>, term: &Term, instant: u32)
         Term::Value(_, index) => Known::One(i64::from(*index)),
         Term::Var(level) => Known::One(under.values[*level as usize]),
         Term::Read(item, args) if args.is_empty() => bare_read(under, *item, instant),
+        Term::Read(item, args) => read(*under, *item, args.as_slice(), instant),
         _ => term_value(*under, term, instant),
     }
 }

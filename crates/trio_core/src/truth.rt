@@ -58,12 +58,17 @@ fn root_truth(core: &Core, root: Root, doms: &Doms) -> Three
     requires root_fits { IsTrue (root_fits (world_of_core core.now) core.now.nodes root) }
     ensures { result ≡ root_truth3 core.now doms.now root }
 {
+    let under = Interpretation {
+        core,
+        doms: doms.as_slice(),
+        values: &[],
+    };
     if let Some(instant) = root.at {
-        return truth3(core, root.node, 0, instant, &[], doms);
+        return node_truth(&under, root.node, 0, instant);
     }
     let mut found = Three::True;
     for instant in 0..core.instants {
-        found = both(found, truth3(core, root.node, 0, instant, &[], doms));
+        found = both(found, node_truth(&under, root.node, 0, instant));
         if let Three::False = found {
             return found;
         }
