@@ -270,6 +270,13 @@ front_near w sets parts e i k fits = λ z is.
       term_bounded w (term.Sum parts) e fits,
     )
 
+-- the same world in other words
+pub world_is : (a b : World) → a.instants ≡ b.instants → a.domains ≡ b.domains → a.items ≡ b.items → a ≡ b
+world_is a b i d t =
+    ap (λ n. record { instants = n; domains = a.domains; items = a.items }) i
+    ∙ ap (λ ds. record { instants = b.instants; domains = ds; items = a.items }) d
+    ∙ ap (λ is. record { instants = b.instants; domains = b.domains; items = is }) t
+
 -- reads
 read_parts : (w : World) (n : ℕ) (args : List Term) (e : List ℤ) (fits : TermFits w (term.Read n args) e) →
     (is_arity (option_map (λ item. length item.args) (slice_get w.items n)) (length args) ≡ true) × (list_all (λ a. reaches w a (length e) false) args ≡ true)

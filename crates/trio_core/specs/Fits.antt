@@ -12,6 +12,7 @@ use Rattle.trio_core.specs.declared.nodes.Core.{Core}
 use Rattle.trio_core.specs.declared.nodes.TheConstants.{MOST_ROUND}
 use Rattle.trio_core.specs.Core.{numbers}
 use Rattle.trio_core.specs.CoreShape.{Ranges, term_fits}
+use Rattle.trio_core.specs.Three.{known_at}
 use Rattle.trio_core.specs.Stands.{lie_in, NodeAsked}
 
 -- a term fits under these values of the variables
@@ -26,14 +27,22 @@ abbrev pub IsCellRead : World → ℕ → List (Option ℤ) → ℕ → Option �
 IsCellRead w item values i None = read_cell w item values i ≡ None
 IsCellRead w item values i (Some number) = (cell : Cell) × (read_cell w item values i ≡ Some cell) × (slice_get (cells_of w) number ≡ Some cell)
 
+-- a known value is no greater than a bound
+abbrev pub IsNear : Known ℤ → Type 0
+IsNear k = (z : ℤ) → k ≡ One z → nat_abs z ≤ GREATEST_BOUND
+
+-- the number of a cell of an item, whose known value is near
+pub record IsCellOf (w : World) (sets : List ℕ) (item number : ℕ) : Type 0 where
+  pub declared : item < length w.items
+  pub cell : Cell
+  pub place : slice_get (cells_of w) number ≡ Some cell
+  pub of_item : cell.item ≡ item
+  pub near : IsNear (known_at w sets cell)
+
 -- the only member of a set, or that there are several
 abbrev pub IsSole : List ℕ → Option ℕ → Type 0
 IsSole members (Some v) = members ≡ v ∷ []
 IsSole members None = 2 ≤ length members
-
--- a known value is no greater than a bound
-abbrev pub IsNear : Known ℤ → Type 0
-IsNear k = (z : ℤ) → k ≡ One z → nat_abs z ≤ GREATEST_BOUND
 
 -- a node may be asked for under each value of one more variable, whose values are taken from an index on
 pub record BodyFits (core : Core) (low high : ℤ) (part from i : ℕ) (values : List ℤ) : Type 0 where

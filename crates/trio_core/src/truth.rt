@@ -12,7 +12,7 @@ use crate::doms::Doms;
 use crate::interpretation::Interpretation;
 use crate::kleene::{both, compare, either, opposite};
 use crate::nodes::{Core, Known, MOST_ROUND, Node, Root, Three};
-use crate::terms::term_value;
+use crate::terms::quick_value;
 
 /// The three-valued truth of a node at an instant under sets of values, where an Exists ranges over its values from an index on.
 pub fn truth3(core: &Core, node: u32, from: u32, now: u32, env: &[i64], doms: &Doms) -> Three
@@ -34,7 +34,7 @@ pub fn truth3_in(core: &Core, node: u32, from: u32, now: u32, env: &[i64], doms:
         doms,
         values: env,
     };
-    node_truth(under, node, from, now)
+    node_truth(&under, node, from, now)
 }
 
 /// The three-valued truth of a core under sets of values: whether all roots are true at their instants.
@@ -58,12 +58,17 @@ fn root_truth(core: &Core, root: Root, doms: &Doms) -> Three
     requires root_fits { IsTrue (root_fits (world_of_core core.now) core.now.nodes root) }
     ensures { result ≡ root_truth3 core.now doms.now root }
 {
+    let under = Interpretation {
+        core,
+        doms: doms.as_slice(),
+        values: &[],
+    };
     if let Some(instant) = root.at {
-        return truth3(core, root.node, 0, instant, &[], doms);
+        return node_truth(&under, root.node, 0, instant);
     }
     let mut found = Three::True;
     for instant in 0..core.instants {
-        found = both(found, truth3(core, root.node, 0, instant, &[], doms));
+        found = both(found, node_truth(&under, root.node, 0, instant));
         if let Three::False = found {
             return found;
         }
@@ -73,35 +78,31 @@ fn root_truth(core: &Core, root: Root, doms: &Doms) -> Three
 
 /// The truth of a node, where an Exists ranges over its values from an index on.
 #[cycle(truth)]
-fn node_truth(under: Interpretation<'_>, node: u32, from: u32, instant: u32) -> Three
-    requires sets_fit { AreSets (world_of_core under.core.now) under.doms.now }
-    requires asked { NodeAsked under.core.now node from instant under.values.now }
-    ensures { result ≡ core_truth3 (world_of_core under.entry.core.now) under.entry.core.now.nodes node from under.entry.values.now under.entry.doms.now instant }
+fn node_truth(under: &Interpretation<'_>, node: u32, from: u32, instant: u32) -> Three
+    requires sets_fit { AreSets (world_of_core under.now.core.now) under.now.doms.now }
+    requires asked { NodeAsked under.now.core.now node from instant under.now.values.now }
+    ensures { result ≡ core_truth3 (world_of_core under.now.core.now) under.now.core.now.nodes node from under.now.values.now under.now.doms.now instant }
 {
     match under.core.nodes.get(node as usize) {
         Node::Atom(rel, left, right) => {
-            let left = term_value(under, left, instant);
-            let right = term_value(under, right, instant);
+            let left = quick_value(under, left, instant);
+            let right = quick_value(under, right, instant);
             compare(*rel, left, right)
         }
         Node::Not(part) => opposite(node_truth(under, *part, 0, instant)),
-        Node::And(left, right) => {
-            let first = node_truth(under, *left, 0, instant);
-            if let Three::False = first {
-                return first;
-            }
-            both(first, node_truth(under, *right, 0, instant))
-        }
-        Node::Or(left, right) => {
-            let first = node_truth(under, *left, 0, instant);
-            if let Three::True = first {
-                return first;
-            }
-            either(first, node_truth(under, *right, 0, instant))
-        }
+        Node::And(left, right) => match node_truth(under, *left, 0, instant) {
+            Three::False => Three::False,
+            Three::Unknown => both(Three::Unknown, node_truth(under, *right, 0, instant)),
+            Three::True => node_truth(under, *right, 0, instant),
+        },
+        Node::Or(left, right) => match node_truth(under, *left, 0, instant) {
+            Three::False => node_truth(under, *right, 0, instant),
+            Three::Unknown => either(Three::Unknown, node_truth(under, *right, 0, instant)),
+            Three::True => Three::True,
+        },
         Node::Exists(low, high, part) => for_some(under, *low, *high, *part, from, instant),
         Node::Dist(part, distance) => {
-            let Known::One(distance) = term_value(under, distance, instant) else {
+            let Known::One(distance) = quick_value(under, distance, instant) else {
                 unreachable!()
             };
             let target = i64::from(instant) + distance;
@@ -117,17 +118,17 @@ fn node_truth(under: Interpretation<'_>, node: u32, from: u32, instant: u32) -> 
 /// Whether a node is true for one of the whole numbers from low to high, from an index on, as one more variable.
 #[cycle(truth)]
 fn for_some(
-    under: Interpretation<'_>,
+    under: &Interpretation<'_>,
     low: i64,
     high: i64,
     part: u32,
     from: u32,
     instant: u32,
 ) -> Three
-    requires sets_fit { AreSets (world_of_core under.core.now) under.doms.now }
-    requires body { BodyFits under.core.now low high part from instant under.values.now }
+    requires sets_fit { AreSets (world_of_core under.now.core.now) under.now.doms.now }
+    requires body { BodyFits under.now.core.now low high part from instant under.now.values.now }
     ensures { result
-        ≡ any3 (λ z. core_truth3 (world_of_core under.entry.core.now) under.entry.core.now.nodes part 0 (under.entry.values.now ++ z ∷ []) under.entry.doms.now instant) (drop from (numbers low high)) }
+        ≡ any3 (λ z. core_truth3 (world_of_core under.now.core.now) under.now.core.now.nodes part 0 (under.now.values.now ++ z ∷ []) under.now.doms.now instant) (drop from (numbers low high)) }
 {
     let level = under.values.len();
     let mut inner = [0; MOST_ROUND as usize];
@@ -137,9 +138,9 @@ fn for_some(
         inner[level] = low + i64::from(index);
         let further = Interpretation {
             values: &inner[..level + 1],
-            ..under
+            ..*under
         };
-        found = either(found, node_truth(further, part, 0, instant));
+        found = either(found, node_truth(&further, part, 0, instant));
         if let Three::True = found {
             return found;
         }

@@ -2,7 +2,7 @@
 use Rattle.std.proofs.Common.{◌≡◌, ℕ, ◌<◌, ℤ, pos, neg_ℤ, Bool, if◌then◌else◌, ◌+ℤ◌, ◌*ℤ◌, List, length, map, take, get_or, Option, None, Some, slice_get, to_z, of_z, w64, subst, refl, sym, ap, ◌∙◌, arith, rules}
 use Rattle.std.specs.ControlFlow.{continue_value}
 use Rattle.std.specs.Option.{option_map}
-use Rattle.std.proofs.lemmas.Bool.{and_parts, ltb-true}
+use Rattle.std.proofs.lemmas.Bool.{ltb-true}
 use Rattle.std.proofs.lemmas.Int.{ints}
 use Rattle.std.proofs.lemmas.List.{length-set, length-map, length-take-le, take_all}
 use Rattle.std.proofs.lemmas.Option.{slice_get-map, slice_get-get_or, slice_get_within}
@@ -11,36 +11,27 @@ use Rattle.trio_types.specs.declared.formula.Term.{Term}
 use Rattle.trio_types.specs.declared.formula.Term.TheVariants as term
 use Rattle.trio_types.specs.declared.formula.Term.TheFolds.{the_lemmas}
 use Rattle.trio_types.specs.declared.spec.Domain.{Domain}
-use Rattle.trio_types.specs.World.{World, values_in, size_of}
-use Rattle.trio_types.specs.Cells.{the_cell, cells_of, cell_size, item_takes, takes}
+use Rattle.trio_types.specs.World.{values_in}
+use Rattle.trio_types.specs.Cells.{the_cell, cells_of, item_takes, takes}
 use Rattle.trio_types.specs.Parts.{declarations_of}
 use Rattle.trio_types.specs.Values.{indexes, index_of, read_cell}
 use Rattle.trio_types.specs.Declarations.{declared_world}
-use Rattle.trio_types.proofs.Specs.{value_domain, few_arguments, argument_domain}
-use Rattle.trio_types.proofs.CellNumbers.{args_named, size_inside, size_from_item, values_from_item}
+use Rattle.trio_types.proofs.Specs.{few_arguments, argument_domain}
+use Rattle.trio_types.proofs.CellNumbers.{args_named, size_inside}
 use Rattle.trio_types.proofs.Reading.{no_index_at, index_more, all_indexes, indexes_fit}
 use Rattle.trio_types.proofs.Bounded.{near_of, passed}
 use Rattle.trio_core.specs.declared.nodes.Known.{Known}
 use Rattle.trio_core.specs.declared.nodes.Known.TheVariants.{One}
-use Rattle.trio_core.specs.Sets.{members}
 use Rattle.trio_core.specs.Three.{known_both, known_map, known_at, known_sum, value3}
 use Rattle.trio_core.specs.Stands.{world_of_core}
-use Rattle.trio_core.specs.Fits.{TermFits, IsCellRead, IsSole}
+use Rattle.trio_core.specs.Fits.{TermFits, IsCellRead}
 use Rattle.trio_core.proofs.KnownAt.{same_One}
 use Rattle.trio_core.proofs.Value3At.{signed_value3, value3-Number, value3-Value, value3-Var, value3-Sum, value3-Times}
 use Rattle.trio_core.proofs.KnownAt.{signed_one, value_if_known, known_sum_more}
 use Rattle.trio_core.proofs.TermsAt.{reaches-Var}
-use Rattle.trio_core.proofs.TermsFit.{term_reaches, term_near, times_part, sum_part, front_near, read_item, read_length, read_arg, arg_known, arg_values, args_known, cell_by_indexes, item_of_cell, read3_by_cell}
-use Rattle.trio_core.proofs.Sole.{member_in, set_of_cell, known_single, known_several}
+use Rattle.trio_core.proofs.TermsFit.{world_is, term_reaches, term_near, times_part, sum_part, front_near, read_item, read_length, read_arg, arg_known, arg_values, args_known, cell_by_indexes, item_of_cell, read3_by_cell}
 use Rattle.trio_core.proofs.NodesFit.{core_formed}
 use Rattle.trio_core.proofs.terms.+value.Goals as goal
-
--- the same worlds and domains in other words
-world_is : (a b : World) → a.instants ≡ b.instants → a.domains ≡ b.domains → a.items ≡ b.items → a ≡ b
-world_is a b i d t =
-    ap (λ n. record { instants = n; domains = a.domains; items = a.items }) i
-    ∙ ap (λ ds. record { instants = b.instants; domains = ds; items = a.items }) d
-    ∙ ap (λ is. record { instants = b.instants; domains = b.domains; items = is }) t
 
 index_found : (given domains : List Domain) (ds args : List ℕ) (k : ℕ) (passed_on z : ℤ) (o : Option ℕ) → given ≡ domains → ds ≡ args → passed_on ≡ z →
     o ≡ index_of (values_in given (get_or ds k 0)) passed_on → index_of (values_in domains (get_or args k 0)) z ≡ o
@@ -341,15 +332,8 @@ read-returns-in_default t c =
     let told = c.cell_read.ensures (arg_values w e look i args) (args_known w look n args e i fits) in
     sym (read3_by_cell w sets n args e i fits None (subst (IsCellRead w n (arg_values w e look i args) i) c.in_default.is told))
 
-pub read-get-requires : goal.read-get-requires
-read-get-requires t c =
-    let core = c.args.under.core.now in
-    let w = world_of_core core in
-    let r = read_item w c.args.item c.args.args.now c.args.under.values.now c.requires.term_fits in
-    slice_get_within core.items c.args.item r.0 r.1
-
-pub read-set_of-requires : goal.read-set_of-requires
-read-set_of-requires t c =
+pub read-cell_value-requires-clause-cell_is : goal.read-cell_value-requires-clause-cell_is
+read-cell_value-requires-clause-cell_is t c =
     let core = c.args.under.core.now in
     let w = world_of_core core in
     let sets = c.args.under.doms.now in
@@ -361,12 +345,18 @@ read-set_of-requires t c =
     let n = c.args.item in
     let told = c.cell_read.ensures (arg_values w e look i args) (args_known w look n args e i fits) in
     let there = subst (IsCellRead w n (arg_values w e look i args) i) c.in-Some.is told in
-    let m = c.in-Some.cell in
-    let cell = there.0 in
-    omega (arith, c.requires.sets_fit.whole, slice_get_within (cells_of w) m cell there.2)
+    let known = read3_by_cell w sets n args e i fits (Some there.0) there.1 in
+    let r = read_item w n args e fits in
+    record {
+      declared = slice_get_within core.items n r.0 r.1;
+      cell = there.0;
+      place = there.2;
+      of_item = item_of_cell w n (arg_values w e look i args) i there.0 there.1;
+      near = λ z is. term_near w sets (term.Read n args) e i fits z (known ∙ is);
+    }
 
-pub read-sole_member-requires : goal.read-sole_member-requires
-read-sole_member-requires t c =
+pub read-returns : goal.read-returns
+read-returns t c =
     let core = c.args.under.core.now in
     let w = world_of_core core in
     let sets = c.args.under.doms.now in
@@ -378,92 +368,8 @@ read-sole_member-requires t c =
     let n = c.args.item in
     let told = c.cell_read.ensures (arg_values w e look i args) (args_known w look n args e i fits) in
     let there = subst (IsCellRead w n (arg_values w e look i args) i) c.in-Some.is told in
-    let m = c.in-Some.cell in
-    let cell = there.0 in
-    let set = c.set_of.result in
-    let is = set_of_cell w sets m set cell c.requires.sets_fit there.2 c.set_of.ensures in
-    ltb-true 0 set (and_parts _ _ is).0
-
-pub read-value_at-requires-clause-domain_in : goal.read-value_at-requires-clause-domain_in
-read-value_at-requires-clause-domain_in t c =
-    let core = c.args.under.core.now in
-    let w = world_of_core core in
-    let n = c.args.item in
-    let asked = c.get.result.now in
-    let p = declarations_of w in
-    let f = core_formed core in
-    let domain = value_domain p f n asked c.get.ensures in
-    omega (arith, slice_get_within core.domains asked.value domain.0 domain.1, ap length c.declarations.ensures.domains)
-
-pub read-value_at-requires-clause-index_in : goal.read-value_at-requires-clause-index_in
-read-value_at-requires-clause-index_in t c =
-    let core = c.args.under.core.now in
-    let w = world_of_core core in
-    let sets = c.args.under.doms.now in
-    let e = c.args.under.values.now in
-    let look = known_at w sets in
-    let i = c.args.instant in
-    let fits = c.requires.term_fits in
-    let args = c.args.args.now in
-    let n = c.args.item in
-    let told = c.cell_read.ensures (arg_values w e look i args) (args_known w look n args e i fits) in
-    let there = subst (IsCellRead w n (arg_values w e look i args) i) c.in-Some.is told in
-    let m = c.in-Some.cell in
-    let cell = there.0 in
-    let set = c.set_of.result in
-    let is = set_of_cell w sets m set cell c.requires.sets_fit there.2 c.set_of.ensures in
-    let asked = c.get.result.now in
-    let v = c.in-Some-sole_member.index in
-    let alone = subst (IsSole (members (cell_size w cell) set)) c.in-Some-sole_member.is (c.sole_member.ensures (cell_size w cell) is) in
-    let below = (member_in (cell_size w cell) set 0 v (ap (λ ms. slice_get ms 0) alone)).1 in
-    let of_item = item_of_cell w n (arg_values w e look i args) i cell there.1 in
-    omega (arith, below, size_from_item w cell asked (ap (slice_get core.items) of_item ∙ c.get.ensures), ap (λ ds. size_of ds asked.value) c.declarations.ensures.domains)
-
-pub read-returns-in-Some-sole_member : goal.read-returns-in-Some-sole_member
-read-returns-in-Some-sole_member t c =
-    let core = c.args.under.core.now in
-    let w = world_of_core core in
-    let sets = c.args.under.doms.now in
-    let e = c.args.under.values.now in
-    let look = known_at w sets in
-    let i = c.args.instant in
-    let fits = c.requires.term_fits in
-    let args = c.args.args.now in
-    let n = c.args.item in
-    let told = c.cell_read.ensures (arg_values w e look i args) (args_known w look n args e i fits) in
-    let there = subst (IsCellRead w n (arg_values w e look i args) i) c.in-Some.is told in
-    let m = c.in-Some.cell in
-    let cell = there.0 in
-    let set = c.set_of.result in
-    let is = set_of_cell w sets m set cell c.requires.sets_fit there.2 c.set_of.ensures in
-    let asked = c.get.result.now in
-    let v = c.in-Some-sole_member.index in
-    let alone = subst (IsSole (members (cell_size w cell) set)) c.in-Some-sole_member.is (c.sole_member.ensures (cell_size w cell) is) in
-    let z = c.value_at.result in
-    let of_item = item_of_cell w n (arg_values w e look i args) i cell there.1 in
-    let value = ap (λ zs. slice_get zs v) (values_from_item w cell asked (ap (slice_get core.items) of_item ∙ c.get.ensures)) ∙ ap (λ ds. slice_get (values_in ds asked.value) v) (sym c.declarations.ensures.domains) ∙ c.value_at.ensures in
-    let known = read3_by_cell w sets n args e i fits (Some cell) there.1 ∙ known_single w sets m set v cell z c.requires.sets_fit there.2 c.set_of.ensures alone value in
-    sym (known ∙ ap One (passed z (term_near w sets (term.Read n args) e i fits z known)))
-
-pub read-returns-in-None : goal.read-returns-in-None
-read-returns-in-None t c =
-    let core = c.args.under.core.now in
-    let w = world_of_core core in
-    let sets = c.args.under.doms.now in
-    let e = c.args.under.values.now in
-    let look = known_at w sets in
-    let i = c.args.instant in
-    let fits = c.requires.term_fits in
-    let args = c.args.args.now in
-    let n = c.args.item in
-    let told = c.cell_read.ensures (arg_values w e look i args) (args_known w look n args e i fits) in
-    let there = subst (IsCellRead w n (arg_values w e look i args) i) c.in-Some.is told in
-    let m = c.in-Some.cell in
-    let cell = there.0 in
-    let set = c.set_of.result in
-    let is = set_of_cell w sets m set cell c.requires.sets_fit there.2 c.set_of.ensures in
-    let two = subst (IsSole (members (cell_size w cell) set)) c.in-None.is (c.sole_member.ensures (cell_size w cell) is) in
-    sym (read3_by_cell w sets n args e i fits (Some cell) there.1 ∙ known_several w sets m set cell c.requires.sets_fit there.2 c.set_of.ensures two)
+    let known = read3_by_cell w sets n args e i fits (Some there.0) there.1 in
+    c.cell_value.ensures there.0 there.2 ∙ sym known
 
 pub sum-term_value-requires : goal.sum-term_value-requires
 sum-term_value-requires t c =

@@ -1,5 +1,5 @@
 -- The answers to the goals of `node_truth` and `for_some`.
-use Rattle.std.proofs.Common.{◌≡◌, ℕ, ◌+◌, ◌<◌, ℤ, pos, negsuc, ◌^◌, ◌+ℤ◌, ◌≤ℤ◌, nat_abs, Fits, w32, T, to_z, of_z, w64, [], ◌∷◌, ◌++◌, length, drop, Some, subst, refl, sym, ap, ◌∙◌, arith, rules}
+use Rattle.std.proofs.Common.{◌≡◌, ◌+◌, ◌<◌, ℤ, pos, ◌+ℤ◌, ◌≤ℤ◌, nat_abs, to_z, of_z, w64, [], ◌∷◌, ◌++◌, length, drop, Some, subst, refl, sym, ap, ◌∙◌, arith}
 use Rattle.std.proofs.lemmas.Int.{ints}
 use Rattle.std.proofs.lemmas.List.{take_more_set, take-set-le, length-set}
 use Rattle.trio_types.proofs.Bounded.{near_of}
@@ -7,6 +7,7 @@ use Rattle.trio_types.proofs.Specs.{few_instants}
 use Rattle.trio_types.specs.Parts.{declarations_of}
 use Rattle.trio_core.specs.declared.nodes.Node.TheVariants as node
 use Rattle.trio_core.specs.declared.nodes.Three.{Three}
+use Rattle.trio_core.specs.declared.nodes.Three.TheVariants as three
 use Rattle.trio_core.specs.Core.{numbers}
 use Rattle.trio_core.specs.Three.{known_at, value3, not3, and3, or3, any3, relates3, core_truth3}
 use Rattle.trio_core.specs.Stands.{world_of_core, NodeAsked}
@@ -19,8 +20,8 @@ use Rattle.trio_core.proofs.truth.+truth.Goals as goal
 
 pub for_some-node_truth-requires : goal.for_some-node_truth-requires
 for_some-node_truth-requires t c =
-    let core = c.args.under.core.now in
-    let e = c.args.under.values.now in
+    let core = c.args.under.now.core.now in
+    let e = c.args.under.now.values.now in
     let i = c.args.instant in
     let low = c.args.low in
     let high = c.args.high in
@@ -43,11 +44,11 @@ for_some-node_truth-requires t c =
 
 pub for_some-returns-in-True : goal.for_some-returns-in-True
 for_some-returns-in-True t c =
-    let core = c.args.under.core.now in
+    let core = c.args.under.now.core.now in
     let w = world_of_core core in
     let nodes = core.nodes in
-    let sets = c.args.under.doms.now in
-    let e = c.args.under.values.now in
+    let sets = c.args.under.now.doms.now in
+    let e = c.args.under.now.values.now in
     let i = c.args.instant in
     let low = c.args.low in
     let high = c.args.high in
@@ -74,11 +75,11 @@ for_some-returns-in-True t c =
 
 pub for_some-loop-index-preserved : goal.for_some-loop-index-preserved
 for_some-loop-index-preserved t c =
-    let core = c.args.under.core.now in
+    let core = c.args.under.now.core.now in
     let w = world_of_core core in
     let nodes = core.nodes in
-    let sets = c.args.under.doms.now in
-    let e = c.args.under.values.now in
+    let sets = c.args.under.now.doms.now in
+    let e = c.args.under.now.values.now in
     let i = c.args.instant in
     let low = c.args.low in
     let high = c.args.high in
@@ -109,11 +110,11 @@ for_some-loop-index-preserved t c =
 
 pub for_some-returns : goal.for_some-returns
 for_some-returns t c =
-    let core = c.args.under.core.now in
+    let core = c.args.under.now.core.now in
     let w = world_of_core core in
     let nodes = core.nodes in
-    let sets = c.args.under.doms.now in
-    let e = c.args.under.values.now in
+    let sets = c.args.under.now.doms.now in
+    let e = c.args.under.now.values.now in
     let i = c.args.instant in
     let low = c.args.low in
     let high = c.args.high in
@@ -127,20 +128,20 @@ for_some-returns t c =
     let many : c.number_of-index-end.result ≡ length zs = c.number_of-index-end.ensures ∙ ap length same_numbers in
     any_end q zs k c.loop-index.found (any3 q (drop c.args.from zs)) (omega (arith, c.loop-index-test.false, many, c.loop-index.auto)) so_far
 
-pub node_truth-term_value-left-requires-clause-term_fits : goal.node_truth-term_value-left-requires-clause-term_fits
-node_truth-term_value-left-requires-clause-term_fits t c =
-    let core = c.args.under.core.now in
-    let e = c.args.under.values.now in
+pub node_truth-quick_value-left-requires-clause-term_fits : goal.node_truth-quick_value-left-requires-clause-term_fits
+node_truth-quick_value-left-requires-clause-term_fits t c =
+    let core = c.args.under.now.core.now in
+    let e = c.args.under.now.values.now in
     let a = c.args.node in
     let lie = c.requires.asked.values_in in
     let at = c.get.ensures ∙ ap Some c.in-Atom.is in
     let terms = atom_terms core a c.in-Atom.rel c.in-Atom.left c.in-Atom.right e at lie in
     terms.0
 
-pub node_truth-term_value-right-requires-clause-term_fits : goal.node_truth-term_value-right-requires-clause-term_fits
-node_truth-term_value-right-requires-clause-term_fits t c =
-    let core = c.args.under.core.now in
-    let e = c.args.under.values.now in
+pub node_truth-quick_value-right-requires-clause-term_fits : goal.node_truth-quick_value-right-requires-clause-term_fits
+node_truth-quick_value-right-requires-clause-term_fits t c =
+    let core = c.args.under.now.core.now in
+    let e = c.args.under.now.values.now in
     let a = c.args.node in
     let lie = c.requires.asked.values_in in
     let at = c.get.ensures ∙ ap Some c.in-Atom.is in
@@ -149,8 +150,8 @@ node_truth-term_value-right-requires-clause-term_fits t c =
 
 pub node_truth-node_truth-requires : goal.node_truth-node_truth-requires
 node_truth-node_truth-requires t c =
-    let core = c.args.under.core.now in
-    let e = c.args.under.values.now in
+    let core = c.args.under.now.core.now in
+    let e = c.args.under.now.values.now in
     let i = c.args.instant in
     let a = c.args.node in
     let lie = c.requires.asked.values_in in
@@ -159,58 +160,70 @@ node_truth-node_truth-requires t c =
     let part = part_asked core a (node.Not c.in-Not.part) at 0 c.in-Not.part refl i e inside lie in
     (omega (arith, part.before, c.decreases), (c.requires.sets_fit, part.asked))
 
-pub node_truth-node_truth-first-requires : goal.node_truth-node_truth-first-requires
-node_truth-node_truth-first-requires t c =
-    let core = c.args.under.core.now in
-    let e = c.args.under.values.now in
-    let i = c.args.instant in
-    let a = c.args.node in
-    let lie = c.requires.asked.values_in in
-    let inside = c.requires.asked.inside in
-    let at = c.get.ensures ∙ ap Some c.in-And.is in
-    let left = part_asked core a (node.And c.in-And.left c.in-And.right) at 0 c.in-And.left refl i e inside lie in
-    (omega (arith, left.before, c.decreases), (c.requires.sets_fit, left.asked))
-
 pub node_truth-node_truth-requires-in-And : goal.node_truth-node_truth-requires-in-And
 node_truth-node_truth-requires-in-And t c =
-    let core = c.args.under.core.now in
-    let e = c.args.under.values.now in
+    let core = c.args.under.now.core.now in
+    let e = c.args.under.now.values.now in
     let i = c.args.instant in
     let a = c.args.node in
-    let lie = c.requires.asked.values_in in
-    let inside = c.requires.asked.inside in
     let at = c.get.ensures ∙ ap Some c.in-And.is in
-    let right = part_asked core a (node.And c.in-And.left c.in-And.right) at 1 c.in-And.right refl i e inside lie in
-    (omega (arith, right.before, c.decreases), (c.requires.sets_fit, right.asked))
+    let part = part_asked core a (node.And c.in-And.left c.in-And.right) at 0 c.in-And.left refl i e c.requires.asked.inside c.requires.asked.values_in in
+    (omega (arith, part.before, c.decreases), (c.requires.sets_fit, part.asked))
 
-pub node_truth-node_truth-first-requires-in-Or : goal.node_truth-node_truth-first-requires-in-Or
-node_truth-node_truth-first-requires-in-Or t c =
-    let core = c.args.under.core.now in
-    let e = c.args.under.values.now in
+pub node_truth-node_truth-requires-in-Unknown : goal.node_truth-node_truth-requires-in-Unknown
+node_truth-node_truth-requires-in-Unknown t c =
+    let core = c.args.under.now.core.now in
+    let e = c.args.under.now.values.now in
     let i = c.args.instant in
     let a = c.args.node in
-    let lie = c.requires.asked.values_in in
-    let inside = c.requires.asked.inside in
-    let at = c.get.ensures ∙ ap Some c.in-Or.is in
-    let left = part_asked core a (node.Or c.in-Or.left c.in-Or.right) at 0 c.in-Or.left refl i e inside lie in
-    (omega (arith, left.before, c.decreases), (c.requires.sets_fit, left.asked))
+    let at = c.get.ensures ∙ ap Some c.in-And.is in
+    let part = part_asked core a (node.And c.in-And.left c.in-And.right) at 1 c.in-And.right refl i e c.requires.asked.inside c.requires.asked.values_in in
+    (omega (arith, part.before, c.decreases), (c.requires.sets_fit, part.asked))
+
+pub node_truth-node_truth-requires-in-True : goal.node_truth-node_truth-requires-in-True
+node_truth-node_truth-requires-in-True t c =
+    let core = c.args.under.now.core.now in
+    let e = c.args.under.now.values.now in
+    let i = c.args.instant in
+    let a = c.args.node in
+    let at = c.get.ensures ∙ ap Some c.in-And.is in
+    let part = part_asked core a (node.And c.in-And.left c.in-And.right) at 1 c.in-And.right refl i e c.requires.asked.inside c.requires.asked.values_in in
+    (omega (arith, part.before, c.decreases), (c.requires.sets_fit, part.asked))
 
 pub node_truth-node_truth-requires-in-Or : goal.node_truth-node_truth-requires-in-Or
 node_truth-node_truth-requires-in-Or t c =
-    let core = c.args.under.core.now in
-    let e = c.args.under.values.now in
+    let core = c.args.under.now.core.now in
+    let e = c.args.under.now.values.now in
     let i = c.args.instant in
     let a = c.args.node in
-    let lie = c.requires.asked.values_in in
-    let inside = c.requires.asked.inside in
     let at = c.get.ensures ∙ ap Some c.in-Or.is in
-    let right = part_asked core a (node.Or c.in-Or.left c.in-Or.right) at 1 c.in-Or.right refl i e inside lie in
-    (omega (arith, right.before, c.decreases), (c.requires.sets_fit, right.asked))
+    let part = part_asked core a (node.Or c.in-Or.left c.in-Or.right) at 0 c.in-Or.left refl i e c.requires.asked.inside c.requires.asked.values_in in
+    (omega (arith, part.before, c.decreases), (c.requires.sets_fit, part.asked))
+
+pub node_truth-node_truth-requires-in-False-node_truth : goal.node_truth-node_truth-requires-in-False-node_truth
+node_truth-node_truth-requires-in-False-node_truth t c =
+    let core = c.args.under.now.core.now in
+    let e = c.args.under.now.values.now in
+    let i = c.args.instant in
+    let a = c.args.node in
+    let at = c.get.ensures ∙ ap Some c.in-Or.is in
+    let part = part_asked core a (node.Or c.in-Or.left c.in-Or.right) at 1 c.in-Or.right refl i e c.requires.asked.inside c.requires.asked.values_in in
+    (omega (arith, part.before, c.decreases), (c.requires.sets_fit, part.asked))
+
+pub node_truth-node_truth-requires-in-Unknown-node_truth : goal.node_truth-node_truth-requires-in-Unknown-node_truth
+node_truth-node_truth-requires-in-Unknown-node_truth t c =
+    let core = c.args.under.now.core.now in
+    let e = c.args.under.now.values.now in
+    let i = c.args.instant in
+    let a = c.args.node in
+    let at = c.get.ensures ∙ ap Some c.in-Or.is in
+    let part = part_asked core a (node.Or c.in-Or.left c.in-Or.right) at 1 c.in-Or.right refl i e c.requires.asked.inside c.requires.asked.values_in in
+    (omega (arith, part.before, c.decreases), (c.requires.sets_fit, part.asked))
 
 pub node_truth-for_some-requires : goal.node_truth-for_some-requires
 node_truth-for_some-requires t c =
-    let core = c.args.under.core.now in
-    let e = c.args.under.values.now in
+    let core = c.args.under.now.core.now in
+    let e = c.args.under.now.values.now in
     let i = c.args.instant in
     let a = c.args.node in
     let at = c.get.ensures ∙ ap Some c.in-Exists.is in
@@ -225,10 +238,10 @@ node_truth-for_some-requires t c =
       (c.requires.sets_fit, subst (λ l. BodyFits core l (to_z w64 (of_z w64 high)) p c.args.from i e) low_is (subst (λ h. BodyFits core low h p c.args.from i e) high_is body)),
     )
 
-pub node_truth-term_value-requires-clause-term_fits : goal.node_truth-term_value-requires-clause-term_fits
-node_truth-term_value-requires-clause-term_fits t c =
-    let core = c.args.under.core.now in
-    let e = c.args.under.values.now in
+pub node_truth-quick_value-requires-clause-term_fits : goal.node_truth-quick_value-requires-clause-term_fits
+node_truth-quick_value-requires-clause-term_fits t c =
+    let core = c.args.under.now.core.now in
+    let e = c.args.under.now.values.now in
     let a = c.args.node in
     let lie = c.requires.asked.values_in in
     let at = c.get.ensures ∙ ap Some c.in-Dist.is in
@@ -239,9 +252,9 @@ node_truth-term_value-requires-clause-term_fits t c =
 
 pub node_truth-unreachable-requires : goal.node_truth-unreachable-requires
 node_truth-unreachable-requires t c =
-    let core = c.args.under.core.now in
-    let sets = c.args.under.doms.now in
-    let e = c.args.under.values.now in
+    let core = c.args.under.now.core.now in
+    let sets = c.args.under.now.doms.now in
+    let e = c.args.under.now.values.now in
     let i = c.args.instant in
     let a = c.args.node in
     let lie = c.requires.asked.values_in in
@@ -249,14 +262,14 @@ node_truth-unreachable-requires t c =
     let p = c.in-Dist.part in
     let x = c.in-Dist.distance in
     let k = dist_known core a p x e sets i at lie in
-    c.in_default-term_value.not-One k.0 (c.term_value.ensures ∙ k.1)
+    c.in_default.not-One k.0 (c.quick_value.ensures ∙ k.1)
 
 pub node_truth-overflow_add-target : goal.node_truth-overflow_add-target
 node_truth-overflow_add-target t c =
-    let core = c.args.under.core.now in
+    let core = c.args.under.now.core.now in
     let w = world_of_core core in
-    let sets = c.args.under.doms.now in
-    let e = c.args.under.values.now in
+    let sets = c.args.under.now.doms.now in
+    let e = c.args.under.now.values.now in
     let i = c.args.instant in
     let a = c.args.node in
     let lie = c.requires.asked.values_in in
@@ -266,14 +279,14 @@ node_truth-overflow_add-target t c =
     let x = c.in-Dist.distance in
     let fits = dist_term core a p x e at lie in
     let d = c.in-One.distance in
-    let known = sym c.term_value.ensures ∙ c.in-One.is in
+    let known = sym c.quick_value.ensures ∙ c.in-One.is in
     let near = near_of d (term_near w sets x e i fits d known) in
     let few = few_instants (declarations_of w) (core_formed core) in
     omega (arith, ints, near.not_far_back, near.not_far_on, few, inside, c.from.ensures)
 
 pub node_truth-overflow_cast-target : goal.node_truth-overflow_cast-target
 node_truth-overflow_cast-target t c =
-    let core = c.args.under.core.now in
+    let core = c.args.under.now.core.now in
     let w = world_of_core core in
     let d = c.in-One.distance in
     let few = few_instants (declarations_of w) (core_formed core) in
@@ -286,9 +299,9 @@ node_truth-overflow_cast-target t c =
 
 pub node_truth-node_truth-requires-then-target-from : goal.node_truth-node_truth-requires-then-target-from
 node_truth-node_truth-requires-then-target-from t c =
-    let core = c.args.under.core.now in
+    let core = c.args.under.now.core.now in
     let w = world_of_core core in
-    let e = c.args.under.values.now in
+    let e = c.args.under.now.values.now in
     let a = c.args.node in
     let lie = c.requires.asked.values_in in
     let at = c.get.ensures ∙ ap Some c.in-Dist.is in
@@ -306,26 +319,26 @@ node_truth-node_truth-requires-then-target-from t c =
 
 pub node_truth-returns-in-Atom : goal.node_truth-returns-in-Atom
 node_truth-returns-in-Atom t c =
-    let core = c.args.under.core.now in
+    let core = c.args.under.now.core.now in
     let w = world_of_core core in
     let nodes = core.nodes in
-    let sets = c.args.under.doms.now in
-    let e = c.args.under.values.now in
+    let sets = c.args.under.now.doms.now in
+    let e = c.args.under.now.values.now in
     let look = known_at w sets in
     let i = c.args.instant in
     let a = c.args.node in
     let at = c.get.ensures ∙ ap Some c.in-Atom.is in
     let rel = c.in-Atom.rel in
-    c.compare.ensures ∙ ap (λ v. relates3 rel v c.term_value-right.result) c.term_value-left.ensures ∙ ap (relates3 rel (value3 w c.in-Atom.left e look i)) c.term_value-right.ensures
+    c.compare.ensures ∙ ap (λ v. relates3 rel v c.quick_value-right.result) c.quick_value-left.ensures ∙ ap (relates3 rel (value3 w c.in-Atom.left e look i)) c.quick_value-right.ensures
     ∙ sym (eval_atom w nodes a c.args.from rel c.in-Atom.left c.in-Atom.right e sets i at)
 
 pub node_truth-returns-in-Not : goal.node_truth-returns-in-Not
 node_truth-returns-in-Not t c =
-    let core = c.args.under.core.now in
+    let core = c.args.under.now.core.now in
     let w = world_of_core core in
     let nodes = core.nodes in
-    let sets = c.args.under.doms.now in
-    let e = c.args.under.values.now in
+    let sets = c.args.under.now.doms.now in
+    let e = c.args.under.now.values.now in
     let i = c.args.instant in
     let a = c.args.node in
     let lie = c.requires.asked.values_in in
@@ -336,77 +349,131 @@ node_truth-returns-in-Not t c =
 
 pub node_truth-returns-in-False : goal.node_truth-returns-in-False
 node_truth-returns-in-False t c =
-    let core = c.args.under.core.now in
+    let core = c.args.under.now.core.now in
     let w = world_of_core core in
     let nodes = core.nodes in
-    let sets = c.args.under.doms.now in
-    let e = c.args.under.values.now in
+    let sets = c.args.under.now.doms.now in
+    let e = c.args.under.now.values.now in
     let i = c.args.instant in
     let a = c.args.node in
     let lie = c.requires.asked.values_in in
     let inside = c.requires.asked.inside in
+    let l = c.in-And.left in
+    let r = c.in-And.right in
     let at = c.get.ensures ∙ ap Some c.in-And.is in
-    let left = part_asked core a (node.And c.in-And.left c.in-And.right) at 0 c.in-And.left refl i e inside lie in
-    let right = part_asked core a (node.And c.in-And.left c.in-And.right) at 1 c.in-And.right refl i e inside lie in
-    let stops = sym c.node_truth-first.ensures ∙ c.in-False.is in
-    c.in-False.is ∙ sym (ap (λ f. and3 f (core_truth3 w nodes c.in-And.right 0 e sets i)) stops) ∙ sym (eval_and w nodes a c.args.from c.in-And.left c.in-And.right e sets i at left.before right.before)
+    let left = part_asked core a (node.And l r) at 0 l refl i e inside lie in
+    let right = part_asked core a (node.And l r) at 1 r refl i e inside lie in
+    let whole = eval_and w nodes a c.args.from l r e sets i at left.before right.before in
+    let first = sym c.node_truth-in-And.ensures ∙ c.in-False.is in
+    refl ∙ sym (whole ∙ ap (λ f. and3 f (core_truth3 w nodes r 0 e sets i)) first)
 
-pub node_truth-returns-in_default : goal.node_truth-returns-in_default
-node_truth-returns-in_default t c =
-    let core = c.args.under.core.now in
+pub node_truth-returns-in-Unknown : goal.node_truth-returns-in-Unknown
+node_truth-returns-in-Unknown t c =
+    let core = c.args.under.now.core.now in
     let w = world_of_core core in
     let nodes = core.nodes in
-    let sets = c.args.under.doms.now in
-    let e = c.args.under.values.now in
+    let sets = c.args.under.now.doms.now in
+    let e = c.args.under.now.values.now in
     let i = c.args.instant in
     let a = c.args.node in
     let lie = c.requires.asked.values_in in
     let inside = c.requires.asked.inside in
+    let l = c.in-And.left in
+    let r = c.in-And.right in
     let at = c.get.ensures ∙ ap Some c.in-And.is in
-    let left = part_asked core a (node.And c.in-And.left c.in-And.right) at 0 c.in-And.left refl i e inside lie in
-    let right = part_asked core a (node.And c.in-And.left c.in-And.right) at 1 c.in-And.right refl i e inside lie in
-    c.both.ensures ∙ ap (λ f. and3 f c.node_truth-in-And.result) c.node_truth-first.ensures ∙ ap (and3 (core_truth3 w nodes c.in-And.left 0 e sets i)) c.node_truth-in-And.ensures ∙ sym (eval_and w nodes a c.args.from c.in-And.left c.in-And.right e sets i at left.before right.before)
+    let left = part_asked core a (node.And l r) at 0 l refl i e inside lie in
+    let right = part_asked core a (node.And l r) at 1 r refl i e inside lie in
+    let whole = eval_and w nodes a c.args.from l r e sets i at left.before right.before in
+    let first = sym c.node_truth-in-And.ensures ∙ c.in-Unknown.is in
+    c.both.ensures ∙ ap (and3 three.Unknown) c.node_truth-in-Unknown.ensures ∙ sym (whole ∙ ap (λ f. and3 f (core_truth3 w nodes r 0 e sets i)) first)
 
 pub node_truth-returns-in-True : goal.node_truth-returns-in-True
 node_truth-returns-in-True t c =
-    let core = c.args.under.core.now in
+    let core = c.args.under.now.core.now in
     let w = world_of_core core in
     let nodes = core.nodes in
-    let sets = c.args.under.doms.now in
-    let e = c.args.under.values.now in
+    let sets = c.args.under.now.doms.now in
+    let e = c.args.under.now.values.now in
     let i = c.args.instant in
     let a = c.args.node in
     let lie = c.requires.asked.values_in in
     let inside = c.requires.asked.inside in
-    let at = c.get.ensures ∙ ap Some c.in-Or.is in
-    let left = part_asked core a (node.Or c.in-Or.left c.in-Or.right) at 0 c.in-Or.left refl i e inside lie in
-    let right = part_asked core a (node.Or c.in-Or.left c.in-Or.right) at 1 c.in-Or.right refl i e inside lie in
-    let stops = sym c.node_truth-first-in-Or.ensures ∙ c.in-True.is in
-    c.in-True.is ∙ sym (ap (λ f. or3 f (core_truth3 w nodes c.in-Or.right 0 e sets i)) stops) ∙ sym (eval_or w nodes a c.args.from c.in-Or.left c.in-Or.right e sets i at left.before right.before)
+    let l = c.in-And.left in
+    let r = c.in-And.right in
+    let at = c.get.ensures ∙ ap Some c.in-And.is in
+    let left = part_asked core a (node.And l r) at 0 l refl i e inside lie in
+    let right = part_asked core a (node.And l r) at 1 r refl i e inside lie in
+    let whole = eval_and w nodes a c.args.from l r e sets i at left.before right.before in
+    let first = sym c.node_truth-in-And.ensures ∙ c.in-True.is in
+    c.node_truth-in-True.ensures ∙ sym (whole ∙ ap (λ f. and3 f (core_truth3 w nodes r 0 e sets i)) first)
 
-pub node_truth-returns-in_default-first : goal.node_truth-returns-in_default-first
-node_truth-returns-in_default-first t c =
-    let core = c.args.under.core.now in
+pub node_truth-returns-in-False-node_truth : goal.node_truth-returns-in-False-node_truth
+node_truth-returns-in-False-node_truth t c =
+    let core = c.args.under.now.core.now in
     let w = world_of_core core in
     let nodes = core.nodes in
-    let sets = c.args.under.doms.now in
-    let e = c.args.under.values.now in
+    let sets = c.args.under.now.doms.now in
+    let e = c.args.under.now.values.now in
     let i = c.args.instant in
     let a = c.args.node in
     let lie = c.requires.asked.values_in in
     let inside = c.requires.asked.inside in
+    let l = c.in-Or.left in
+    let r = c.in-Or.right in
     let at = c.get.ensures ∙ ap Some c.in-Or.is in
-    let left = part_asked core a (node.Or c.in-Or.left c.in-Or.right) at 0 c.in-Or.left refl i e inside lie in
-    let right = part_asked core a (node.Or c.in-Or.left c.in-Or.right) at 1 c.in-Or.right refl i e inside lie in
-    c.either.ensures ∙ ap (λ f. or3 f c.node_truth-in-Or.result) c.node_truth-first-in-Or.ensures ∙ ap (or3 (core_truth3 w nodes c.in-Or.left 0 e sets i)) c.node_truth-in-Or.ensures ∙ sym (eval_or w nodes a c.args.from c.in-Or.left c.in-Or.right e sets i at left.before right.before)
+    let left = part_asked core a (node.Or l r) at 0 l refl i e inside lie in
+    let right = part_asked core a (node.Or l r) at 1 r refl i e inside lie in
+    let whole = eval_or w nodes a c.args.from l r e sets i at left.before right.before in
+    let first = sym c.node_truth-in-Or.ensures ∙ c.in-False-node_truth.is in
+    c.node_truth-in-False-node_truth.ensures ∙ sym (whole ∙ ap (λ f. or3 f (core_truth3 w nodes r 0 e sets i)) first)
+
+pub node_truth-returns-in-Unknown-node_truth : goal.node_truth-returns-in-Unknown-node_truth
+node_truth-returns-in-Unknown-node_truth t c =
+    let core = c.args.under.now.core.now in
+    let w = world_of_core core in
+    let nodes = core.nodes in
+    let sets = c.args.under.now.doms.now in
+    let e = c.args.under.now.values.now in
+    let i = c.args.instant in
+    let a = c.args.node in
+    let lie = c.requires.asked.values_in in
+    let inside = c.requires.asked.inside in
+    let l = c.in-Or.left in
+    let r = c.in-Or.right in
+    let at = c.get.ensures ∙ ap Some c.in-Or.is in
+    let left = part_asked core a (node.Or l r) at 0 l refl i e inside lie in
+    let right = part_asked core a (node.Or l r) at 1 r refl i e inside lie in
+    let whole = eval_or w nodes a c.args.from l r e sets i at left.before right.before in
+    let first = sym c.node_truth-in-Or.ensures ∙ c.in-Unknown-node_truth.is in
+    c.either.ensures ∙ ap (or3 three.Unknown) c.node_truth-in-Unknown-node_truth.ensures ∙ sym (whole ∙ ap (λ f. or3 f (core_truth3 w nodes r 0 e sets i)) first)
+
+pub node_truth-returns-in-True-node_truth : goal.node_truth-returns-in-True-node_truth
+node_truth-returns-in-True-node_truth t c =
+    let core = c.args.under.now.core.now in
+    let w = world_of_core core in
+    let nodes = core.nodes in
+    let sets = c.args.under.now.doms.now in
+    let e = c.args.under.now.values.now in
+    let i = c.args.instant in
+    let a = c.args.node in
+    let lie = c.requires.asked.values_in in
+    let inside = c.requires.asked.inside in
+    let l = c.in-Or.left in
+    let r = c.in-Or.right in
+    let at = c.get.ensures ∙ ap Some c.in-Or.is in
+    let left = part_asked core a (node.Or l r) at 0 l refl i e inside lie in
+    let right = part_asked core a (node.Or l r) at 1 r refl i e inside lie in
+    let whole = eval_or w nodes a c.args.from l r e sets i at left.before right.before in
+    let first = sym c.node_truth-in-Or.ensures ∙ c.in-True-node_truth.is in
+    refl ∙ sym (whole ∙ ap (λ f. or3 f (core_truth3 w nodes r 0 e sets i)) first)
 
 pub node_truth-returns-in-Exists : goal.node_truth-returns-in-Exists
 node_truth-returns-in-Exists t c =
-    let core = c.args.under.core.now in
+    let core = c.args.under.now.core.now in
     let w = world_of_core core in
     let nodes = core.nodes in
-    let sets = c.args.under.doms.now in
-    let e = c.args.under.values.now in
+    let sets = c.args.under.now.doms.now in
+    let e = c.args.under.now.values.now in
     let i = c.args.instant in
     let a = c.args.node in
     let at = c.get.ensures ∙ ap Some c.in-Exists.is in
@@ -423,11 +490,11 @@ node_truth-returns-in-Exists t c =
 
 pub node_truth-returns-then-target-from : goal.node_truth-returns-then-target-from
 node_truth-returns-then-target-from t c =
-    let core = c.args.under.core.now in
+    let core = c.args.under.now.core.now in
     let w = world_of_core core in
     let nodes = core.nodes in
-    let sets = c.args.under.doms.now in
-    let e = c.args.under.values.now in
+    let sets = c.args.under.now.doms.now in
+    let e = c.args.under.now.values.now in
     let i = c.args.instant in
     let a = c.args.node in
     let lie = c.requires.asked.values_in in
@@ -437,7 +504,7 @@ node_truth-returns-then-target-from t c =
     let x = c.in-Dist.distance in
     let fits = dist_term core a p x e at lie in
     let d = c.in-One.distance in
-    let known = sym c.term_value.ensures ∙ c.in-One.is in
+    let known = sym c.quick_value.ensures ∙ c.in-One.is in
     let near = near_of d (term_near w sets x e i fits d known) in
     let few = few_instants (declarations_of w) (core_formed core) in
     let target = to_z w64 (of_z w64 (to_z w64 (of_z w64 c.from.result) +ℤ to_z w64 (of_z w64 d))) in
@@ -452,11 +519,11 @@ node_truth-returns-then-target-from t c =
 
 pub node_truth-returns-else-target-ge0 : goal.node_truth-returns-else-target-ge0
 node_truth-returns-else-target-ge0 t c =
-    let core = c.args.under.core.now in
+    let core = c.args.under.now.core.now in
     let w = world_of_core core in
     let nodes = core.nodes in
-    let sets = c.args.under.doms.now in
-    let e = c.args.under.values.now in
+    let sets = c.args.under.now.doms.now in
+    let e = c.args.under.now.values.now in
     let i = c.args.instant in
     let a = c.args.node in
     let lie = c.requires.asked.values_in in
@@ -466,7 +533,7 @@ node_truth-returns-else-target-ge0 t c =
     let x = c.in-Dist.distance in
     let fits = dist_term core a p x e at lie in
     let d = c.in-One.distance in
-    let known = sym c.term_value.ensures ∙ c.in-One.is in
+    let known = sym c.quick_value.ensures ∙ c.in-One.is in
     let near = near_of d (term_near w sets x e i fits d known) in
     let few = few_instants (declarations_of w) (core_formed core) in
     let target = to_z w64 (of_z w64 (to_z w64 (of_z w64 c.from.result) +ℤ to_z w64 (of_z w64 d))) in

@@ -25,7 +25,7 @@ returns-in-False c =
     let f : ℕ → Three = λ i. core_truth3 w core.nodes c.args.root.node 0 [] c.args.doms.now i in
     let k = c.loop-instant.instant in
     let more = all_more f (instants_of w) k k c.loop-instant.found c.both-found.result (all3 f (instants_of w)) (instant_at w k c.loop-instant-test.true)
-    (c.both-found.ensures ∙ ap (and3 c.loop-instant.found) c.truth3-in-loop-instant.ensures) c.loop-instant.invariant in
+    (c.both-found.ensures ∙ ap (and3 c.loop-instant.found) (c.node_truth-in-loop-instant.ensures ∙ ap (λ sets. core_truth3 w core.nodes c.args.root.node 0 [] sets k) c.as_slice.ensures)) c.loop-instant.invariant in
     all_found c.both-found.result (all3 f (drop (k + 1) (instants_of w))) (all3 f (instants_of w)) c.in-False.is more ∙ ap (λ at. all3 f (instants_asked w at)) (sym c.in_default.is)
 
 pub loop-instant-preserved : goal.loop-instant-preserved
@@ -35,7 +35,7 @@ loop-instant-preserved c =
     let f : ℕ → Three = λ i. core_truth3 w core.nodes c.args.root.node 0 [] c.args.doms.now i in
     let k = c.loop-instant.instant in
     all_more f (instants_of w) k k c.loop-instant.found c.both-found.result (all3 f (instants_of w)) (instant_at w k c.loop-instant-test.true)
-    (c.both-found.ensures ∙ ap (and3 c.loop-instant.found) c.truth3-in-loop-instant.ensures) c.loop-instant.invariant
+    (c.both-found.ensures ∙ ap (and3 c.loop-instant.found) (c.node_truth-in-loop-instant.ensures ∙ ap (λ sets. core_truth3 w core.nodes c.args.root.node 0 [] sets k) c.as_slice.ensures)) c.loop-instant.invariant
 
 pub returns : goal.returns
 returns c =
