@@ -1,15 +1,14 @@
 -- What is found.
-use Rattle.std.proofs.Common.{◌≡◌, ℕ, ◌+◌, ◌-◌, ◌^◌, ◌<◌, ◌≤◌, length, take, get_or, List, [], ◌∷◌, ◌++◌, ap, arith}
+use Rattle.std.proofs.Common.{◌≡◌, ℕ, ◌+◌, ◌-◌, ◌^◌, ◌<◌, length, List, [], ◌++◌, All, reverse, sym, ap, subst, arith}
 use Rattle.std.specs.Cmp.Lexicographic.{slice_cmp}
 use Rattle.std.specs.List.{sum_by}
 use Rattle.std.specs.List.Sorted.{IsPermutation}
 use Rattle.std.specs.Ordering.{nat_cmp}
-use Rattle.std.proofs.lemmas.List.{take_more}
-use Rattle.std.proofs.lemmas.List.Sums.{sum_by-append, sum_by_more, sum_by-take-le}
+use Rattle.std.proofs.lemmas.List.{get_or-reverse, length-reverse}
+use Rattle.std.proofs.lemmas.List.Sums.{sum_by-append}
 use Rattle.std.proofs.lemmas.List.Elements.{All-nil}
 use Rattle.trio_lists.specs.Multisets.{Permutes}
-use Rattle.trio_lists.proofs.Permuted.{permutes_from}
-use Rattle.emit_ledger.proofs.Grouped.{sum_by-flat_map_push}
+use Rattle.trio_lists.proofs.Permuted.{permutes_back, permutes_flat, permutes_from, permutes_itself, permutes_append, permutes_reverse}
 use Rattle.trio_lists.proofs.Unique.{unique, sorted_strictly, lexical}
 use Rattle.branch_state.specs.declared.branch.Branch.{Branch}
 use Rattle.branch_state.specs.Posed.{Posed}
@@ -18,48 +17,27 @@ use Rattle.branch_state.specs.Branches.{reps, reps_all, root_branch}
 use Rattle.branch_state.specs.Weight.{weight, bulk}
 use Rattle.branch_state.specs.Laws.{RootLaw}
 use Rattle.branch_state.proofs.Modeled.{models_sorted}
-use Rattle.emit_ledger.specs.Regions.{IsRegion}
 use Rattle.emit_ledger.specs.Assembly.{Covers}
 use Rattle.trio_workers.specs.Runs.{WholeLaw}
 
--- where a region gives nothing, its tables are the models of its start
-pub all_found : (p : Posed) (start : Branch) (found : List (List ℕ)) → IsRegion p start found [] → Permutes found (reps p start)
-all_found p start found region = record { weights = λ h. omega (arith, region.law.weights h, sum_by-append h found []) }
+-- Branches in the opposite order fit, represent the same, and take as many steps.
 
--- at first the kept tables are found
-pub first_found : (kept found : List (List ℕ)) → found ≡ kept → Permutes found (kept ++ [])
-first_found kept found same = record { weights = λ h. omega (arith, ap (sum_by h) same, sum_by-append h kept []) }
+pub turned_fit : {A : Type 0} (P : A → Type 0) (xs : List A) → All P xs → All P (reverse xs)
+turned_fit P xs all = λ k d inside.
+    let within : k < length xs = omega (arith, inside, length-reverse xs) in
+    subst P (sym (get_or-reverse xs k d within)) (all (length xs - 1 - k) d (omega (arith, within)))
 
--- the tables of one more start are found
-pub more_found : (p : Posed) (kept found models : List (List ℕ)) (starts : List Branch) (i : ℕ) (b : Branch) → i < length starts → b ≡ get_or starts i b →
-    Permutes found (kept ++ reps_all p (take i starts)) → Permutes models (reps p b) → Permutes (found ++ models) (kept ++ reps_all p (take (i + 1) starts))
-more_found p kept found models starts i b inside is so more = record {
-  weights = λ h. omega (
-    arith,
-    so.weights h,
-    more.weights h,
-    sum_by-append h found models,
-    sum_by-append h kept (reps_all p (take i starts)),
-    sum_by-append h kept (reps_all p (take (i + 1) starts)),
-    ap (λ bs. sum_by h (reps_all p bs)) (take_more starts i b inside),
-    sum_by-flat_map_push h (reps p) (take i starts) (get_or starts i b),
-    ap (λ c. sum_by h (reps p c)) is,
-  );
-}
+pub turned_law : (p : Posed) (kept : List (List ℕ)) (starts : List Branch) → Permutes (kept ++ reps_all p (reverse starts)) (kept ++ reps_all p starts)
+turned_law p kept starts =
+    permutes_append (permutes_itself kept) (permutes_flat (reps p) (reverse starts) starts (permutes_back (permutes_reverse starts)))
 
--- and counted
-pub more_spent : (p : Posed) (starts : List Branch) (i : ℕ) (b : Branch) → i < length starts → b ≡ get_or starts i b →
-    bulk p (take (i + 1) starts) ≡ bulk p (take i starts) + bulk p (b ∷ [])
-more_spent p starts i b inside is =
-    let steps = λ (c : Branch). 2 ^ (weight p c + 1) - 1 in
-    omega (arith, sum_by_more steps starts i b inside, ap steps is)
+pub turned_bulk : (p : Posed) (starts : List Branch) → bulk p starts ≡ bulk p (reverse starts)
+turned_bulk p starts = (permutes_reverse starts).weights (λ b. 2 ^ (weight p b + 1) - 1)
 
-pub part_spent : (p : Posed) (starts : List Branch) (i : ℕ) → bulk p (take i starts) ≤ bulk p starts
-part_spent p starts i = sum_by-take-le (λ b. 2 ^ (weight p b + 1) - 1) starts i
-
-pub within_spent : (p : Posed) (starts : List Branch) (i : ℕ) (b : Branch) → i < length starts → b ≡ get_or starts i b →
-    bulk p (take i starts) + bulk p (b ∷ []) ≤ bulk p starts
-within_spent p starts i b inside is = omega (arith, more_spent p starts i b inside is, part_spent p starts (i + 1))
+-- where nothing is given any more, the whole is found
+pub all_found : (p : Posed) (whole found : List (List ℕ)) (given : List Branch) → given ≡ [] → Permutes (found ++ reps_all p given) whole → Permutes found whole
+all_found p whole found given none so =
+    record { weights = λ h. omega (arith, so.weights h, ap (λ bs. sum_by h (found ++ reps_all p bs)) none, sum_by-append h found []) }
 
 -- tables in another order, with nothing left, cover the whole
 pub covers_all : (p : Posed) (whole found sorted : List (List ℕ)) → Permutes found whole → IsPermutation found sorted → Covers p whole sorted []

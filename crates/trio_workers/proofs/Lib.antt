@@ -1,3 +1,3 @@
 -- The lemmas of the crate.
-pub mod Bulks
+pub mod Advanced
 pub mod Found

@@ -34,9 +34,9 @@ pub struct Outcome {
     pub stopped: Stopped,
 }
 
-/// Works the starts off in their order, each by steps on the last given branch of its region until nothing is given. What is found are the
-/// kept tables and the models of the starts, in order. The steps are at most the sum of `2 ^ (weight + 1) - 1` over the starts. Only want
-/// of memory refuses it.
+/// Works the starts off in their order, each by steps on the branch that was given last until nothing is given. What is found are the kept
+/// tables and the models of the starts, in order. The steps are at most the sum of `2 ^ (weight + 1) - 1` over the starts. Only want of
+/// memory refuses it.
 pub fn run_one<'p, L: Ledger>(
     alloc: Global,
     problem: &'p Problem,
@@ -50,13 +50,9 @@ pub fn run_one<'p, L: Ledger>(
     ensures stopped { IfOk result (λ outcome. (outcome.stopped ≡ stopped.No) × (outcome.rest ≡ [])) }
     ensures steps { steps.new ≤ steps.old + bulk problem.now starts }
 {
-    let mut found = kept.into_vec();
-    for start in starts.as_slice() {
-        let models = search(alloc, problem, start, steps)?;
-        found.append(&mut models.into_vec())?;
-    }
+    let found = search(alloc, problem, kept, starts, steps)?;
     Ok(Outcome {
-        found: sort_tables(List::from_vec(found)),
+        found: sort_tables(found),
         rest: List::new(alloc),
         stopped: Stopped::No,
     })

@@ -1,70 +1,79 @@
-//! One branch is worked off.
-ghost use Rattle.std.specs.Prelude.{◌≡◌, ◌+◌, ◌<◌, ◌≤◌, [], ◌∷◌, IfOk, OnOk};
+//! Branches are worked off.
+ghost use Rattle.std.specs.Prelude.{◌≡◌, ◌+◌, ◌≤◌, [], ◌∷◌, ◌++◌, reverse, All, IfOk, OnOk};
 ghost use Rattle.trio_lists.specs.Multisets.{Permutes};
-ghost use Rattle.branch_state.specs.Branches.{Fits, reps};
+ghost use Rattle.branch_state.specs.Branches.{Fits, reps_all};
 ghost use Rattle.branch_state.specs.Weight.{bulk};
-ghost use Rattle.trio_workers.specs.Runs.{IsPart};
+ghost use Rattle.trio_workers.specs.Runs.{IsAdvanced};
 
-use branch_state::{Branch, Problem, Tables, copy};
+use branch_state::{Branch, Branches, List, Problem, Tables};
+use decompose::laws::rule_keeps_the_law;
 use decompose::{Stepped, Steps, step};
-use emit_ledger::Region;
 use std::alloc::{AllocError, Global};
 use std::sync::ledger::Ledger;
 
-/// The models that a branch represents, each once. Only want of memory refuses it.
+/// The kept tables and the models that the starts represent, each once. Each start is worked off before the next one, always by a step on
+/// the branch that was given last. Only want of memory refuses it.
 pub(crate) fn search<'p, L: Ledger>(
     alloc: Global,
     problem: &'p Problem,
-    start: &Branch,
+    kept: Tables,
+    starts: Branches,
     steps: &mut Steps<L>,
 ) -> Result<Tables, AllocError>
-    requires { Fits problem.now start.now }
-    ensures found { IfOk result (λ found. Permutes found (reps problem.now start.now)) }
-    ensures steps { steps.new ≤ steps.old + bulk problem.now (start.now ∷ []) }
+    requires { All (Fits problem.now) starts }
+    ensures found { IfOk result (λ found. Permutes found (kept ++ reps_all problem.now starts)) }
+    ensures steps { steps.new ≤ steps.old + bulk problem.now starts }
 {
-    let mut region = Region::give(alloc, problem, start)?;
-    while !region.given().is_empty() {
-        advance(alloc, &mut region, steps)?;
+    let mut found = kept;
+    let mut given = turned(starts);
+    while let Some(branch) = given.pop() {
+        advance(alloc, problem, branch, steps, &mut found, &mut given)?;
     }
-    Ok(region.into_parts().found)
+    Ok(found)
 }
 
-/// Takes one step on the last given branch of a region, and puts the answer in its place. Only want of memory refuses it.
+/// Takes one step on a branch that stood behind those given. What the step answers takes its place: a table is found, or two branches are
+/// given, the left one last. Only want of memory refuses it.
 fn advance<'p, L: Ledger>(
     alloc: Global,
-    region: &mut Region<'p>,
+    problem: &'p Problem,
+    branch: Branch,
     steps: &mut Steps<L>,
+    found: &mut Tables,
+    given: &mut Branches,
 ) -> Result<(), AllocError>
-    requires { region.old.given ≡ [] → ⊥ }
-    ensures same { (region.new.problem ≡ region.old.problem) × (region.new.start ≡ region.old.start) }
-    ensures tick { steps.new ≤ steps.old + 1 }
-    ensures fewer { OnOk result (bulk region.old.problem region.new.given < bulk region.old.problem region.old.given) }
+    requires { Fits problem.now branch }
+    ensures tick { steps.new ≡ steps.old + 1 }
+    ensures advanced { OnOk result (IsAdvanced problem.now branch found.old given.old found.new given.new) }
 {
-    let problem = region.problem();
-    let given = region.given();
-    let last = copy(alloc, given.get(given.len() - 1))?;
-    let part = region_of_step(alloc, problem, last, steps)?;
-    match region.absorb(alloc, part) {
+    rule_keeps_the_law();
+    let _posed = problem.core();
+    match step(alloc, problem, branch, steps) {
+        Ok(Stepped::Closed(_)) => Ok(()),
+        Ok(Stepped::Whole(leaf)) => add(found, leaf.into_parts().table),
+        Ok(Stepped::Two(_, left, right)) => {
+            add(given, right)?;
+            add(given, left)
+        }
+        Err((_, refused)) => Err(refused),
+    }
+}
+
+/// Appends a value; only want of memory refuses it.
+fn add<T: Drop>(list: &mut List<T>, value: T) -> Result<(), AllocError>
+    ensures { OnOk result (list.new ≡ list.old ++ value ∷ []) }
+{
+    match list.push(value) {
         Ok(()) => Ok(()),
         Err((_, refused)) => Err(refused),
     }
 }
 
-/// The region of one step on a branch. Only want of memory refuses it.
-fn region_of_step<'p, L: Ledger>(
-    alloc: Global,
-    problem: &'p Problem,
-    branch: Branch,
-    steps: &mut Steps<L>,
-) -> Result<Region<'p>, AllocError>
-    requires { Fits problem.now branch }
-    ensures tick { steps.new ≡ steps.old + 1 }
-    ensures part { IfOk result (IsPart problem.now branch) }
+/// The branches in the opposite order. It takes no memory.
+fn turned(branches: Branches) -> Branches
+    ensures { result ≡ reverse branches }
 {
-    match step(alloc, problem, branch, steps) {
-        Ok(Stepped::Closed(shut)) => Region::shut(alloc, &shut),
-        Ok(Stepped::Whole(leaf)) => Region::leaf(alloc, leaf),
-        Ok(Stepped::Two(fork, _, _)) => Region::fork(alloc, fork),
-        Err((_, refused)) => Err(refused),
-    }
+    let mut turned = branches.into_vec();
+    turned.as_mut_slice().reverse();
+    List::from_vec(turned)
 }

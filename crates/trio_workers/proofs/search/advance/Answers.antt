@@ -1,23 +1,42 @@
--- The answer to the goal of `advance`.
-use Rattle.std.proofs.Common.{◌≡◌, ◌-◌, ◌<◌, [], ◌∷◌, length, slice_get, Some, sym, ap, ◌∙◌, subst}
-use Rattle.branch_state.specs.Weight.{bulk}
-use Rattle.trio_workers.proofs.Bulks.{bulk_absorbed}
-use Rattle.trio_workers.proofs.search.advance.Goals.{in-Ok, in-Err}
+-- The answers to the goals of `advance`.
+use Rattle.std.proofs.Common.{◌≡◌, ◌∙◌, ◌∷◌, [], sym, ap, subst}
+use Rattle.std.proofs.lemmas.List.{append-nil}
+use Rattle.std.proofs.lemmas.Result.{on_ok_weaker}
+use Rattle.branch_state.specs.Branches.{reps}
+use Rattle.decompose.specs.Law.{KeepsLaw, AreHalves}
+use Rattle.decompose.specs.Rule.{Closed, Whole, Two, ruled}
+use Rattle.decompose.specs.Stepped.{answer}
+use Rattle.trio_workers.proofs.Advanced.{advanced_alone, advanced_parted}
 use Rattle.trio_workers.proofs.search.advance.Goals as goal
 
-pub returns-clause-fewer : goal.returns-clause-fewer
-returns-clause-fewer g c =
-    let region = c.args.region.now in
-    let part = c.in_ok-part.part in
-    let last = c.in_ok-last.last in
-    let fewer : bulk region.problem part.given < bulk region.problem (last ∷ []) =
-    subst (λ p. bulk p part.given < bulk p (last ∷ [])) c.problem-problem.ensures.is c.in_ok-part.ensures.part.fewer in
-    let at : slice_get region.given (length region.given - 1) ≡ Some last =
-    ap (λ n. slice_get region.given (n - 1)) (sym (c.len.ensures ∙ ap length c.given-given.ensures))
-    ∙ ap (λ bs. slice_get bs (c.len.result - 1)) (sym c.given-given.ensures)
-    ∙ c.get.ensures
-    ∙ ap (λ b. Some b) (sym c.in_ok-last.ensures) in
-    elim c.match-absorb.branch [
-      | in-Ok w ↦ rw (w.result-is, w.in-Ok.ensures.ok) (bulk_absorbed region.problem region.given part.given last at fewer)
-      | in-Err w ↦ rw w.result-is tt
-    ]
+pub returns-in-Ok-Closed-clause-advanced : goal.returns-in-Ok-Closed-clause-advanced
+returns-in-Ok-Closed-clause-advanced g c =
+    let p = c.args.problem.now in
+    let b = c.args.branch in
+    let rule : Closed c.in-Ok-Closed.field-0-0.why ≡ ruled p b = subst (λ s. answer s ≡ ruled p b) c.in-Ok-Closed.field-0-is c.in-Ok-Closed.ensures.rule in
+    let none : reps p b ≡ [] = subst (KeepsLaw p b) (sym rule) (c.rule_keeps_the_law.ensures.keeps p c.core-posed.ensures.posed b c.requires) in
+    advanced_alone p b c.args.found.now [] c.args.found.now c.args.given.now none (sym (append-nil c.args.found.now))
+
+pub returns-in-Ok-Whole-clause-advanced : goal.returns-in-Ok-Whole-clause-advanced
+returns-in-Ok-Whole-clause-advanced g c =
+    let p = c.args.problem.now in
+    let b = c.args.branch in
+    let leaf = c.in-Ok-Whole.leaf in
+    let table = c.into_parts.result.table in
+    let rule : Whole leaf.table ≡ ruled p b = subst (λ s. answer s ≡ ruled p b) c.in-Ok-Whole.field-0-is c.in-Ok-Whole.ensures.rule in
+    let alone : reps p b ≡ leaf.table ∷ [] = subst (KeepsLaw p b) (sym rule) (c.rule_keeps_the_law.ensures.keeps p c.core-posed.ensures.posed b c.requires) in
+    let same : leaf.table ≡ table = ap (λ v. v.table) (sym c.into_parts.ensures.is) in
+    on_ok_weaker c.add.result
+    (λ made. advanced_alone p b c.args.found.now (table ∷ []) c.add.new.list c.args.given.now (alone ∙ ap (λ t. t ∷ []) same) made) c.add.ensures
+
+pub returns-in-Ok-Two-clause-advanced : goal.returns-in-Ok-Two-clause-advanced
+returns-in-Ok-Two-clause-advanced g c =
+    let p = c.args.problem.now in
+    let b = c.args.branch in
+    let left = c.in-Ok-Two.left in
+    let right = c.in-Ok-Two.right in
+    let rule : Two left right ≡ ruled p b = subst (λ s. answer s ≡ ruled p b) c.in-Ok-Two.field-0-is c.in-Ok-Two.ensures.rule in
+    let halves : AreHalves p b left right = subst (KeepsLaw p b) (sym rule) (c.rule_keeps_the_law.ensures.keeps p c.core-posed.ensures.posed b c.requires) in
+    on_ok_weaker c.add-in-Ok-Two-2.result
+    (λ made. advanced_parted p b left right c.args.found.now c.args.given.now c.add-in-Ok-Two.new.list c.add-in-Ok-Two-2.new.list halves c.in_ok-add-in-Ok-Two.ensures made)
+    c.add-in-Ok-Two-2.ensures

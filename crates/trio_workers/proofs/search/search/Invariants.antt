@@ -1,15 +1,17 @@
 -- What the loop of `search` keeps, and why it ends.
-use Rattle.std.proofs.Common.{◌≡◌, ◌+◌, ◌≤◌, [], ◌∷◌}
+use Rattle.std.proofs.Common.{◌+◌, ◌≤◌, ◌++◌, All}
+use Rattle.trio_lists.specs.Multisets.{Permutes}
+use Rattle.branch_state.specs.Branches.{reps_all, Fits}
 use Rattle.branch_state.specs.Weight.{bulk}
 use Rattle.trio_workers.proofs.search.search.Given as goal
 
--- the region is that of the start, and what was counted and what is left are no more than the start takes
-abbrev pub invariant-loop-alloc : goal.invariant-loop-alloc
-invariant-loop-alloc g l = record {
-  problem : l.region.problem ≡ l.problem;
-  start : l.region.start ≡ l.start;
-  spent : l.steps + bulk l.problem l.region.given ≤ l.fn.steps + bulk l.problem (l.start ∷ []);
+-- what is found and given is what was kept and the starts, and what was counted and what is left are no more than the starts take
+abbrev pub invariant-loop-branch : goal.invariant-loop-branch
+invariant-loop-branch g l = record {
+  fit : All (Fits l.problem) l.given;
+  law : Permutes (l.found ++ reps_all l.problem l.given) (l.fn.kept ++ reps_all l.problem l.fn.starts);
+  spent : l.steps + bulk l.problem l.given ≤ l.fn.steps + bulk l.problem l.fn.starts;
 }
 
-abbrev pub decreases-loop-alloc : goal.decreases-loop-alloc
-decreases-loop-alloc g l = bulk l.problem l.region.given
+abbrev pub decreases-loop-branch : goal.decreases-loop-branch
+decreases-loop-branch g l = bulk l.problem l.given
