@@ -4,6 +4,7 @@
 mod command;
 mod excerpt;
 mod explain;
+mod given_words;
 mod history_words;
 mod kind_words;
 mod limit_words;
