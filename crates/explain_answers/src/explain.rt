@@ -35,6 +35,7 @@ const READ_FAULT: u8 = 5;
 
 const WRITE_FAULT: u8 = 6;
 
+/// The status of want of memory.
 pub const MEMORY: u8 = 7;
 
 /// A status and what is said with it.
@@ -67,7 +68,7 @@ struct SpecText {
     spec: Spec,
 }
 
-/// Reads the words, does what they ask for, writes what is to be said of it to `out`, and answers the status.
+/// Reads the words behind the program's name, does what they ask for, writes what is to be said of it to `out`, and answers the status.
 pub fn explained<F: Shelf, K: Sink>(
     alloc: Global,
     words: &[String],
