@@ -1,22 +1,7 @@
 //! `trio_explain`: says in words, with the place in the text, what `trio` answers in short.
 #![tactic(auto)]
 
-mod command;
-mod excerpt;
-mod explain;
-mod history_words;
-mod kind_words;
-mod limit_words;
-mod nesting;
-mod place;
-mod range_words;
-mod row_form;
-mod source;
-mod spec_words;
-mod timeline;
-mod verdict_words;
-mod writing;
-
+use explain_answers::{MEMORY, explained};
 use std::process::ExitCode;
 use std::rt::{Env, Files};
 use std::{env, io};
@@ -24,8 +9,6 @@ use trio_io::{FileShelf, OutSink};
 
 #[cfg(test)]
 mod tests;
-
-use crate::explain::{MEMORY, explained};
 
 /// The words behind the program's name. `Err` is want of memory; words that are no text count as none.
 fn words_given<R: Env + AllocGlobal>(rt: &R) -> Result<Vec<String>, u8> {

@@ -5,21 +5,39 @@ use std::process::Abort;
 use std::test::Fail;
 use trio_io::{Counts, Files, MemShelf, MemSink};
 
+/// What is said of a line of words over these files, behind the status.
+fn answered(alloc: Global, line: &str, files: Files) -> Result<Vec<u8>, AllocError> {
+    let mut shelf = MemShelf::new(alloc, files, Counts::new(alloc))?;
+    let mut out = MemSink::new(alloc, 65536, 65536, Counts::new(alloc))?;
+    let mut words = Vec::new(alloc);
+    for word in line.split_whitespace() {
+        words.push(String::from_str(alloc, word)?)?;
+    }
+    let status = explained(alloc, words.as_slice(), &mut shelf, &mut out);
+    let mut text = format!(in alloc; "{status} ")?.into_bytes();
+    text.extend_from_slice(out.written())?;
+    Ok(text)
+}
+
 /// What is said of a specification in the file `s` and a history in the file `h`, behind the status.
 fn said(alloc: Global, spec: &str, history: &str) -> Result<Vec<u8>, AllocError> {
     let mut files = Files::new(alloc);
     files.push("s", spec.as_bytes())?;
     files.push("h", history.as_bytes())?;
-    let mut shelf = MemShelf::new(alloc, files, Counts::new(alloc))?;
-    let mut out = MemSink::new(alloc, 65536, 65536, Counts::new(alloc))?;
-    let mut words = Vec::new(alloc);
-    words.push(String::from_str(alloc, "check")?)?;
-    words.push(String::from_str(alloc, "s")?)?;
-    words.push(String::from_str(alloc, "h")?)?;
-    let status = explained(alloc, words.as_slice(), &mut shelf, &mut out);
-    let mut text = format!(in alloc; "{status} ")?.into_bytes();
-    text.extend_from_slice(out.written())?;
-    Ok(text)
+    answered(alloc, "check s h", files)
+}
+
+/// A specification, a refused one, and histories with two, one and no unknown values, a wrong value and no row.
+fn few_files(alloc: Global) -> Result<Files, AllocError> {
+    let mut files = Files::new(alloc);
+    files.push("spec", b"time 3; item p : bool;")?;
+    files.push("broken", b"time 3; item p bool;")?;
+    files.push("two", b"p: ? 1 ?")?;
+    files.push("one", b"p: 0 ? 1")?;
+    files.push("known", b"p: 0 1 0")?;
+    files.push("wrong", b"p: 0 2 1")?;
+    files.push("empty", b"")?;
+    Ok(files)
 }
 
 /// Asserts that what is said begins with these words.
@@ -306,5 +324,52 @@ fn whole_answers(rt: HostRuntime) -> Result<(), Fail> {
         "",
         "4 s: the number of cells, one for each item, tuple of arguments and instant, is 1025, and the limit is 1024\n",
     )?;
+    Ok(())
+}
+
+#[test]
+fn answers_to_words(rt: HostRuntime) -> Result<(), Fail> {
+    let usage = "2 usage: trio_explain check SPEC HIST | complete SPEC HIST\n";
+    let wrong =
+        "4 wrong:1:6: `2` at instant 1 is no value of `p`, whose values are 0, 1, `false` and `true`\np: 0 2 1\n     ^\n";
+    let broken =
+        "4 broken:1:16: the reserved word `bool` cannot stand here\ntime 3; item p bool;\n               ^\n";
+    let absent = "5 absent: there is no such file, or it cannot be read\n";
+    let rows = [
+        ("check spec wrong", wrong),
+        ("complete spec wrong", wrong),
+        ("check broken absent", broken),
+        ("complete broken absent", broken),
+        ("check absent broken", absent),
+        ("complete absent broken", absent),
+        ("complete spec absent", absent),
+        (
+            "complete spec empty",
+            "4 empty: no line is the row of `p`\n",
+        ),
+        (
+            "complete spec two",
+            "0 spec and two can be read; 2 of 3 values are not known, and `trio complete` lists the histories that fill them in and satisfy the specification\n",
+        ),
+        (
+            "complete spec one",
+            "0 spec and one can be read; 1 of 3 values is not known, and `trio complete` lists the histories that fill it in and satisfy the specification\n",
+        ),
+        (
+            "complete spec known",
+            "0 spec and known can be read; every value is known, and `trio complete` lists the history if it satisfies the specification\n",
+        ),
+        ("check spec known", "0 spec is true in known\n"),
+        ("", usage),
+        ("check spec", usage),
+        ("complete spec", usage),
+        ("complete spec known known", usage),
+        ("complete spec --limit=1", usage),
+        ("completes spec known", usage),
+    ];
+    for row in &rows {
+        let text = answered(rt.alloc(), row.0, few_files(rt.alloc())?)?;
+        assert_eq!(rt; text.as_slice(), row.1.as_bytes(), "{}", row.0);
+    }
     Ok(())
 }

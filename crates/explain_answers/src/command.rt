@@ -5,6 +5,8 @@
 pub enum Command<'a> {
     /// Whether a history satisfies a specification: the names of the specification's and the history's file.
     Check(&'a str, &'a str),
+    /// Every complete history that extends a given one and satisfies a specification: the names of the specification's and the history's file.
+    Complete(&'a str, &'a str),
 }
 
 /// The command that the words are, if they are one.
@@ -16,10 +18,13 @@ pub fn read_words(words: &[String]) -> Option<Command<'_>> {
 }
 
 fn read_three<'a>(word: &str, spec: &'a str, history: &'a str) -> Option<Command<'a>> {
-    if word == "check" && is_file_name(spec) && is_file_name(history) {
-        Some(Command::Check(spec, history))
-    } else {
-        None
+    if !is_file_name(spec) || !is_file_name(history) {
+        return None;
+    }
+    match word {
+        "check" => Some(Command::Check(spec, history)),
+        "complete" => Some(Command::Complete(spec, history)),
+        _ => None,
     }
 }
 

@@ -1,8 +1,8 @@
 //! The line of a text in which something stands, with a mark under it.
 ghost use Rattle.std.specs.Prelude.{◌≡◌, ◌++◌, ◌∷◌, [], length, take, drop, take_while, not, ◌||◌, ◌==◌, ◌≤◌, map, codes, decimal, OnOk};
 ghost use Rattle.std.specs.List.{flat_map};
-ghost use Rattle.trio_explain.specs.Place.{line_behind, column_behind};
-ghost use Rattle.trio_explain.specs.Excerpt.{place_words, shown, blank, line_so_far, rest_of_line, excerpt};
+ghost use Rattle.explain_answers.specs.Place.{line_behind, column_behind};
+ghost use Rattle.explain_answers.specs.Excerpt.{place_words, shown, blank, line_so_far, rest_of_line, excerpt};
 
 use crate::place::{column_behind, parted, place_of};
 use crate::source::Source;

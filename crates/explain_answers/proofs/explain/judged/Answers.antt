@@ -1,7 +1,7 @@
 -- A given history in which every value is known is a table of the specification.
 use Rattle.trio_types.specs.Verdict.{world_of}
 use Rattle.history_table.proofs.Tables.{table_fits}
-use Rattle.trio_explain.proofs.explain.judged.Goals as goal
+use Rattle.explain_answers.proofs.explain.judged.Goals as goal
 
 pub verdict_on-requires : goal.verdict_on-requires
 verdict_on-requires c =

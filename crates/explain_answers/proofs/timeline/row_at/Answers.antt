@@ -5,7 +5,7 @@ use Rattle.trio_types.specs.Cells.{rows_of}
 use Rattle.trio_types.specs.Verdict.{parts_of, world_of}
 use Rattle.trio_types.proofs.Specs.{formed, some_instant}
 use Rattle.trio_types.proofs.CellNumbers.{cell_count_is}
-use Rattle.trio_explain.proofs.timeline.row_at.Goals as goal
+use Rattle.explain_answers.proofs.timeline.row_at.Goals as goal
 
 pub row_name-requires : goal.row_name-requires
 row_name-requires c =

@@ -5,6 +5,7 @@ ghost use Rattle.trio_types.specs.Verdict.{world_of};
 ghost use Rattle.history_table.specs.Fitting.{IsGiven};
 
 use crate::command::{Command, read_words};
+use crate::given_words::put_readable;
 use crate::history_words::put_history_fault;
 use crate::limit_words::put_too_long;
 use crate::source::Source;
@@ -34,6 +35,7 @@ const READ_FAULT: u8 = 5;
 
 const WRITE_FAULT: u8 = 6;
 
+/// The status of want of memory.
 pub const MEMORY: u8 = 7;
 
 /// A status and what is said with it.
@@ -66,7 +68,7 @@ struct SpecText {
     spec: Spec,
 }
 
-/// Reads the words, does what they ask for, writes what is to be said of it to `out`, and answers the status.
+/// Reads the words behind the program's name, does what they ask for, writes what is to be said of it to `out`, and answers the status.
 pub fn explained<F: Shelf, K: Sink>(
     alloc: Global,
     words: &[String],
@@ -90,7 +92,12 @@ fn give<K: Sink>(out: &mut K, status: u8, text: &[u8]) -> u8 {
 fn answered<F: Shelf>(alloc: Global, words: &[String], shelf: &mut F) -> Result<Answer, Stop> {
     match read_words(words) {
         Some(Command::Check(spec, history)) => checked(alloc, shelf, spec, history),
-        None => said(alloc, USAGE, &["usage: trio_explain check SPEC HIST\n"]),
+        Some(Command::Complete(spec, history)) => completed(alloc, shelf, spec, history),
+        None => said(
+            alloc,
+            USAGE,
+            &["usage: trio_explain check SPEC HIST | complete SPEC HIST\n"],
+        ),
     }
 }
 
@@ -101,7 +108,7 @@ fn said(alloc: Global, status: u8, words: &[&str]) -> Result<Answer, Stop> {
     Ok(Answer { status, text })
 }
 
-/// What is said of a specification and a history.
+/// What is said of a specification and the history that is checked against it.
 fn checked<F: Shelf>(
     alloc: Global,
     shelf: &mut F,
@@ -116,6 +123,20 @@ fn checked<F: Shelf>(
         tokens: loaded.tokens.as_slice(),
     };
     judged(alloc, source, &loaded.spec, &given, history_name)
+}
+
+/// What is said of a specification and a given history that is to be completed.
+fn completed<F: Shelf>(
+    alloc: Global,
+    shelf: &mut F,
+    spec_name: &str,
+    history_name: &str,
+) -> Result<Answer, Stop> {
+    let loaded = load_spec(alloc, shelf, spec_name)?;
+    let given = load_history(alloc, shelf, &loaded.spec, history_name)?;
+    let mut text = Vec::new(alloc);
+    put_readable(&mut text, spec_name, history_name, given.as_slice())?;
+    Ok(Answer { status: DONE, text })
 }
 
 /// The bytes of a file, which is a specification's or a history's.

@@ -1,7 +1,7 @@
 //! The line and the column of a byte.
 ghost use Rattle.std.specs.Prelude.{◌≡◌, ◌≤◌, ◌+◌, ◌==◌, not, take, drop, take_while, length, reverse};
 ghost use Rattle.std.specs.List.{filter};
-ghost use Rattle.trio_explain.specs.Place.{line_behind, column_behind};
+ghost use Rattle.explain_answers.specs.Place.{line_behind, column_behind};
 
 /// Where a byte stands, both counted from 1; columns count bytes.
 #[derive(Clone, Copy)]
