@@ -1,5 +1,5 @@
 -- Given histories: their faults, the row that a fault names, and the first unknown cell.
-use Rattle.std.proofs.Common.{◌≡◌, ◌≢◌, ℕ, ◌<◌, ◌⊎◌, inl, inr, List, [], length, Option, None, Some, Err, refl, ◌∙◌, ap, subst, arith, not}
+use Rattle.std.proofs.Common.{◌≡◌, ◌≢◌, ℕ, ◌<◌, List, [], length, Option, None, Some, Err, refl, ◌∙◌, ap, subst, arith, not}
 use Rattle.std.specs.Prelude.{is_none}
 use Rattle.std.proofs.lemmas.List.Quantifiers.{position-Some}
 use Rattle.trio_types.specs.World.{World}
@@ -41,11 +41,7 @@ unknown_within w given cell fits first =
 pub no_want : (w : World) (text : List ℕ) (g : HistFault) → HasHistFault w text g → g ≢ fault.Memory
 no_want w text g has = λ is. subst (HasHistFault w text) is has
 
--- a fault of a text is what the reader answers, and what it answers is a fault of the text or want of memory
+-- a fault of a text is what the reader answers
 pub fault_answers : (w : World) (text : List ℕ) (g : HistFault) → HasHistFault w text g → IsHistoryAnswer w text (Err g)
 fault_answers w text fault.Memory has = tt
 fault_answers w text g has = has
-
-pub answer_faults : (w : World) (text : List ℕ) (g : HistFault) → IsHistoryAnswer w text (Err g) → (g ≡ fault.Memory) ⊎ HasHistFault w text g
-answer_faults w text fault.Memory answer = inl refl
-answer_faults w text g answer = inr answer

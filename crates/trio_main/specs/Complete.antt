@@ -1,5 +1,5 @@
 -- `complete`: every complete history that extends a given one and makes the specification true.
-use Rattle.std.specs.Prelude.{◌≡◌, ℕ, ◌+◌, ◌≤◌, ◌⊎◌, Bool, ◌&&◌, List, filter, Option, Some}
+use Rattle.std.specs.Prelude.{◌≡◌, ℕ, ◌⊎◌, Bool, ◌&&◌, List, filter, Option, Some}
 use Rattle.trio_io.specs.Outside.{ShelfView, SinkView, Writes}
 use Rattle.trio_types.specs.declared.spec.Spec.{Spec}
 use Rattle.trio_types.specs.Verdict.{world_of, is_true_in}
@@ -8,11 +8,9 @@ use Rattle.history_table.specs.Texts.{list_text}
 use Rattle.branch_state.specs.Models.{all_tables}
 use Rattle.trio_main.specs.declared.status.Status.{Status}
 use Rattle.trio_main.specs.declared.status.Status.TheVariants as status
-use Rattle.trio_main.specs.declared.fault.Fault.{Fault}
 use Rattle.trio_main.specs.declared.command.Command.{Command}
 use Rattle.trio_main.specs.declared.command.Command.TheVariants as command
-use Rattle.trio_main.specs.Fault.{status_of}
-use Rattle.trio_main.specs.Message.{message, SaysFault}
+use Rattle.trio_main.specs.Message.{SaysFault}
 use Rattle.trio_main.specs.Load.{LoadFault, IsLoaded}
 use Rattle.trio_main.specs.Refusal.{TellsRefused}
 

@@ -126,6 +126,7 @@ fn answer_is(rt: &(impl Abort + AllocGlobal), spec: &str, want: &str) -> Result<
     check_row(rt, row.as_str())
 }
 
+/// A specification, a history, and the answer of `check`.
 const VERDICTS_AND_REFUSALS: [&str; 14] = [
     "time 3; item p : bool; axiom A : p -> Dist(p, 1); ~ p: 0 0 0\n ~ 0 true\n",
     "time 3; item p : bool; axiom A : p -> Dist(p, 1); ~ p: 0 1 1 ~ 1 false A 2\n",
@@ -148,6 +149,7 @@ fn verdicts_and_refusals(rt: HostRuntime) -> Result<(), Fail> {
     check_all(&rt, &VERDICTS_AND_REFUSALS)
 }
 
+/// Words that are answered with the usage line.
 const NO_COMMANDS: [&str; 23] = [
     "",
     "check",
@@ -359,6 +361,7 @@ fn memory_may_run_out(rt: HostRuntime) {
     }
 }
 
+/// The axioms, the values of `p` at the three instants, and the answer of `check`.
 const TRUTHS: [&str; 16] = [
     "axiom A : p | !p; ~ p: 0 1 1 ~ 0 true\n",
     "axiom A : true -> [p]; ~ p: 1 1 0 ~ 1 false A 2\n",
@@ -383,6 +386,7 @@ fn truth_of_each_form(rt: HostRuntime) -> Result<(), Fail> {
     check_behind(&rt, "time 3; item p : bool; ", &TRUTHS)
 }
 
+/// A history of `p` and `q` over two instants, and the answer of `check`.
 const HISTORIES: [&str; 25] = [
     "p: 0 1\nq: 1 1 ~ 0 true\n",
     "p:0 1\nq:0 0\n ~ 1 false A 1\n",
@@ -424,6 +428,7 @@ fn a_byte_of_no_text(rt: HostRuntime) -> Result<(), Fail> {
     Ok(())
 }
 
+/// The number with which the program ends.
 const NUMBERS: [(Status, u8); 7] = [
     (Status::Done, 0),
     (Status::False, 1),
@@ -473,6 +478,7 @@ fn spec_says(rt: &(impl Abort + AllocGlobal), fault: SpecFault, words: &str) -> 
     says(rt, Fault::Spec(fault), want.as_str())
 }
 
+/// A fault of a specification, and the words behind `refused spec`.
 const SPEC_MESSAGES: [(SpecFault, &str); 13] = [
     (SpecFault::Lex(0), "lex 0"),
     (SpecFault::Deep(106), "deep 106"),
@@ -510,6 +516,7 @@ fn history_says(
     says(rt, Fault::History(fault), want.as_str())
 }
 
+/// A fault of a history, and the words behind `refused history`.
 const HISTORY_MESSAGES: [(HistFault, &str); 6] = [
     (HistFault::Lex(14), "lex 14"),
     (HistFault::Syntax(1), "syntax 1"),

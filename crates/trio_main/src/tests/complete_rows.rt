@@ -33,6 +33,7 @@ fn complete_all(rt: &(impl Abort + AllocGlobal), rows: &[&str]) -> Result<(), Fa
     Ok(())
 }
 
+/// A specification, a history, and the list that `complete` answers.
 const LISTS: [&str; 8] = [
     "time 3; item p : bool; axiom A : p -> Futr(p, 1); ~ p: ? ? ?\n ~ 0 histories 1\nhistory 1\np: 0 0 0\n",
     "time 3; item p : bool; axiom A : Dist(true, 1) & p -> Futr(p, 1); ~ p: ? ? ?\n ~ 0 histories 4\nhistory 1\np: 0 0 0\nhistory 2\np: 0 0 1\nhistory 3\np: 0 1 1\nhistory 4\np: 1 1 1\n",
@@ -119,6 +120,7 @@ fn lists_are_cut_between_pieces(rt: HostRuntime) -> Result<(), Fail> {
     Ok(())
 }
 
+/// A specification, a history, and the refusal of one of them.
 const REFUSED: [&str; 5] = [
     "time 3; item p bool; ~ p: ? ? ? ~ 4 refused spec syntax 5\n",
     "time 3; item p : bool; axiom A : q; ~ p: 0 ? ~ 4 refused spec unknown 11\n",
