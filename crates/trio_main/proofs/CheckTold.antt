@@ -14,7 +14,7 @@ use Rattle.trio_main.specs.declared.command.Command.{Command}
 use Rattle.trio_main.specs.declared.command.Command.TheVariants as command
 use Rattle.trio_main.specs.Check.{TellsCheck}
 use Rattle.trio_main.specs.Answer.{Answers, Finishes}
-use Rattle.trio_main.proofs.FileFaults.{IsOfFile, IsDueStatus, load_fault_of_file, of_file_status, refused_or_read, read_status}
+use Rattle.trio_main.proofs.FileFaults.{IsOfFile, IsDueStatus, load_fault_of_file, of_file_status, fault_tells, read_status}
 use Rattle.trio_main.proofs.Checks.{verdict_read}
 
 check_fault_of_file : (shelf : ShelfView) (s h : List ℕ) (n : ℕ) (f : Fault) → CheckFault shelf s h n f → IsOfFile f
@@ -37,16 +37,9 @@ check_read_text shelf s h n text (inr x) = absurd (verdict_read x.v (sym x.says.
 faulty_tells : (before now : ShelfView) (s h : List ℕ) (old new : SinkView) (n : ℕ) (st : Status) (text : List ℕ) →
     SaysFault (CheckFault before s h n) st text → now.counts.calls ≤ before.counts.calls + n → Writes old new text → CheckTells before now s h old new st
 faulty_tells before now s h old new n st text x fetched wrote =
-    elim (refused_or_read x.named (check_fault_of_file before s h n x.named x.has)) [
-      | inl refused ↦ rw (x.status_is ∙ refused) (record {
-        reads = n;
-        named = x.named;
-        is_refusal = refused;
-        first = x.has;
-        fetched = fetched;
-        written = rw (← x.text_is) wrote;
-      })
-      | inr read ↦ rw (x.status_is ∙ read) tt
+    elim (fault_tells (CheckFault before s h) before now old new n st text (check_fault_of_file before s h n) x fetched wrote) [
+      | inl told ↦ rw (told.0) told.1
+      | inr read ↦ rw read tt
     ]
 
 verdict_tells : (before now : ShelfView) (s h : List ℕ) (old new : SinkView) (spec : Spec) (v : Verdict) → IsVerdict before s h spec v →

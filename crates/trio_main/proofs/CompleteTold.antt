@@ -8,8 +8,9 @@ use Rattle.trio_main.specs.declared.command.Command.{Command}
 use Rattle.trio_main.specs.declared.command.Command.TheVariants as command
 use Rattle.trio_main.specs.Message.{message}
 use Rattle.trio_main.specs.Answer.{Answers, Finishes}
+use Rattle.trio_main.specs.Load.{LoadFault}
 use Rattle.trio_main.specs.Complete.{CompleteDue, CompleteTells, TellsComplete}
-use Rattle.trio_main.proofs.FileFaults.{IsDueStatus, load_fault_of_file, of_file_status, refused_or_read, read_status}
+use Rattle.trio_main.proofs.FileFaults.{IsDueStatus, load_fault_of_file, of_file_status, fault_tells, read_status}
 
 pub complete_status : (shelf : ShelfView) (s h : List ℕ) (n : ℕ) (st : Status) (text : List ℕ) → CompleteDue shelf s h n st text → IsDueStatus st
 complete_status shelf s h n st text (inl x) = rw (x.status_is) (of_file_status x.named (load_fault_of_file shelf s h n x.named x.has))
@@ -25,16 +26,9 @@ complete_read_text shelf s h n text (inr x) = let wrong : status.ReadFault ≡ s
 complete_tells : (before now : ShelfView) (s h : List ℕ) (old new : SinkView) (n : ℕ) (st : Status) (text : List ℕ) →
     CompleteDue before s h n st text → now.counts.calls ≤ before.counts.calls + n → Writes old new text → CompleteTells before now s h old new st
 complete_tells before now s h old new n st text (inl x) fetched wrote =
-    elim (refused_or_read x.named (load_fault_of_file before s h n x.named x.has)) [
-      | inl refused ↦ rw (x.status_is ∙ refused) (record {
-        reads = n;
-        named = x.named;
-        is_refusal = refused;
-        first = x.has;
-        fetched = fetched;
-        written = rw (← x.text_is) wrote;
-      })
-      | inr read ↦ rw (x.status_is ∙ read) tt
+    elim (fault_tells (LoadFault before s h) before now old new n st text (load_fault_of_file before s h n) x fetched wrote) [
+      | inl told ↦ rw (told.0) told.1
+      | inr read ↦ rw read tt
     ]
 complete_tells before now s h old new n st text (inr x) fetched wrote =
     rw (x.status_is) (record { text = text; lists = x.lists; written = wrote })

@@ -1,5 +1,5 @@
 -- From what `complete` loads to what it ends with.
-use Rattle.std.proofs.Common.{◌≡◌, ℕ, inl, inr, List, Result, Err, refl, sym, ◌∙◌, ap, Some, subst}
+use Rattle.std.proofs.Common.{◌≡◌, ℕ, inl, inr, List, Result, refl, sym, ◌∙◌, ap, Some, subst}
 use Rattle.trio_io.specs.Outside.{ShelfView, SinkView, OnlyReads}
 use Rattle.trio_types.specs.declared.spec.Spec.{Spec}
 use Rattle.trio_types.specs.Verdict.{world_of}
@@ -9,12 +9,11 @@ use Rattle.branch_state.specs.Models.{models}
 use Rattle.trio_main.specs.declared.status.Status.{Status}
 use Rattle.trio_main.specs.declared.status.Status.TheVariants as status
 use Rattle.trio_main.specs.declared.fault.Fault.{Fault}
-use Rattle.trio_main.specs.declared.fault.Fault.TheVariants as fault
 use Rattle.trio_main.specs.declared.command.Command.TheVariants as command
 use Rattle.trio_main.specs.Fault.{status_of}
 use Rattle.trio_main.specs.Message.{message}
 use Rattle.trio_main.specs.Load.{LoadFault, IsLoadedProblem}
-use Rattle.trio_main.specs.Complete.{CompleteDue, completions_text}
+use Rattle.trio_main.specs.Complete.{CompleteDue}
 use Rattle.trio_main.specs.Answer.{GivesOrWants, Answers, Ends}
 use Rattle.trio_main.proofs.Jobs.{given_ends}
 use Rattle.trio_main.proofs.Completions.{completions_are}

@@ -1,6 +1,6 @@
--- The faults that files can have, and their statuses.
-use Rattle.std.proofs.Common.{◌≡◌, ◌≢◌, ℕ, ◌⊎◌, inl, inr, List, Err, refl}
-use Rattle.trio_io.specs.Outside.{ShelfView}
+-- The faults that files can have, their statuses, and what the refusal of one tells.
+use Rattle.std.proofs.Common.{◌≡◌, ◌≢◌, ℕ, ◌+◌, ◌≤◌, ◌⊎◌, inl, inr, List, Err, refl, ◌∙◌}
+use Rattle.trio_io.specs.Outside.{ShelfView, SinkView, Writes}
 use Rattle.trio_types.specs.World.{World}
 use Rattle.trio_types.specs.Verdict.{world_of}
 use Rattle.trio_reader.specs.declared.fault.SpecFault.{SpecFault}
@@ -14,7 +14,10 @@ use Rattle.trio_main.specs.declared.fault.Text.TheVariants as text
 use Rattle.trio_main.specs.declared.fault.Fault.{Fault}
 use Rattle.trio_main.specs.declared.fault.Fault.TheVariants as fault
 use Rattle.trio_main.specs.Fault.{status_of, spec_refusal, history_refusal}
+use Rattle.trio_main.specs.Message.{SaysFault}
+use Rattle.trio_main.specs.Refusal.{TellsRefused}
 use Rattle.trio_main.specs.Load.{FileFault, YieldsSpec, YieldsHistory, LoadFault}
+use Rattle.trio_main.proofs.Histories.{no_want}
 
 -- the faults that an answer due can name: those of files
 abbrev pub IsOfFile : Fault → Type 0
@@ -41,7 +44,7 @@ spec_of_file shelf name f (inr x) = rw (x.said.3) (spec_refusal_of_file x.said.0
 
 history_of_file : (world : World) (shelf : ShelfView) (name : List ℕ) (f : Fault) → YieldsHistory world shelf name (Err f) → IsOfFile f
 history_of_file world shelf name f (inl x) = let same : f ≡ x.0 = cc in rw same (file_fault_of_file text.History shelf name x.0 x.2)
-history_of_file world shelf name f (inr x) = rw (x.said.3) (history_refusal_of_file world x.said.0 x.said.1)
+history_of_file world shelf name f (inr x) = rw (x.said.2) (history_refusal_of_file world x.said.0 (no_want world x.bytes x.said.0 x.said.1))
 
 pub load_fault_of_file : (shelf : ShelfView) (s h : List ℕ) (n : ℕ) (f : Fault) → LoadFault shelf s h n f → IsOfFile f
 load_fault_of_file shelf s h n f (inl x) = spec_of_file shelf s f x.1
@@ -59,7 +62,7 @@ of_file_status fault.Write never = never
 of_file_status fault.Memory never = never
 of_file_status f is = tt
 
-pub refused_or_read : (f : Fault) → IsOfFile f → (status_of f ≡ status.Refused) ⊎ (status_of f ≡ status.ReadFault)
+refused_or_read : (f : Fault) → IsOfFile f → (status_of f ≡ status.Refused) ⊎ (status_of f ≡ status.ReadFault)
 refused_or_read fault.Read is = inr refl
 refused_or_read fault.Write never = absurd never
 refused_or_read fault.Memory never = absurd never
@@ -78,3 +81,16 @@ read_status (fault.Missing row) is = cc
 read_status (fault.Unknown row instant) is = cc
 read_status fault.Write is = cc
 read_status fault.Memory is = cc
+
+-- a fault of the command's files that was written is a refusal, or that a file could not be read
+pub fault_tells : (first : ℕ → Fault → Type 0) (before now : ShelfView) (old new : SinkView) (n : ℕ) (st : Status) (text : List ℕ) →
+    ((f : Fault) → first n f → IsOfFile f) → SaysFault (first n) st text → now.counts.calls ≤ before.counts.calls + n → Writes old new text →
+    ((st ≡ status.Refused) × TellsRefused first before now old new) ⊎ (st ≡ status.ReadFault)
+fault_tells first before now old new n st text of_file x fetched wrote =
+    elim (refused_or_read x.named (of_file x.named x.has)) [
+      | inl refused ↦ inl (
+        x.status_is ∙ refused,
+        record { reads = n; named = x.named; is_refusal = refused; is_first = x.has; fetched = fetched; written = rw (← x.text_is) wrote },
+      )
+      | inr read ↦ inr (x.status_is ∙ read)
+    ]

@@ -1,5 +1,5 @@
--- Given histories: the row that a fault names, and the first unknown cell.
-use Rattle.std.proofs.Common.{◌≡◌, ℕ, ◌<◌, List, [], length, Option, None, Some, Err, refl, ◌∙◌, ap, subst, arith, not}
+-- Given histories: their faults, the row that a fault names, and the first unknown cell.
+use Rattle.std.proofs.Common.{◌≡◌, ◌≢◌, ℕ, ◌<◌, List, [], length, Option, None, Some, Err, refl, ◌∙◌, ap, subst, arith, not}
 use Rattle.std.specs.Prelude.{is_none}
 use Rattle.std.proofs.lemmas.List.Quantifiers.{position-Some}
 use Rattle.trio_types.specs.World.{World}
@@ -7,7 +7,7 @@ use Rattle.trio_types.specs.Cells.{rows_of, cells_of}
 use Rattle.history_table.specs.declared.fault.HistFault.{HistFault}
 use Rattle.history_table.specs.declared.fault.HistFault.TheVariants as fault
 use Rattle.history_table.specs.Lines.{Placed}
-use Rattle.history_table.specs.History.{lines_fault, have_row, missing_row, if_whole, if_sound, IsHistoryAnswer}
+use Rattle.history_table.specs.History.{lines_fault, have_row, missing_row, if_whole, if_sound, HasHistFault, IsHistoryAnswer}
 use Rattle.history_table.specs.Fitting.{IsGiven, first_unknown}
 use Rattle.history_table.proofs.Answered.{OfLine, of_lines}
 
@@ -36,3 +36,12 @@ pub unknown_within : (w : World) (given : List (Option ℕ)) (cell : ℕ) → Is
 unknown_within w given cell fits first =
     let inside : cell < length given = (position-Some is_none given cell None first).0 in
     omega (arith, fits.whole)
+
+-- want of memory is no fault of a text
+pub no_want : (w : World) (text : List ℕ) (g : HistFault) → HasHistFault w text g → g ≢ fault.Memory
+no_want w text g has = λ is. subst (HasHistFault w text) is has
+
+-- a fault of a text is what the reader answers
+pub fault_answers : (w : World) (text : List ℕ) (g : HistFault) → HasHistFault w text g → IsHistoryAnswer w text (Err g)
+fault_answers w text fault.Memory has = tt
+fault_answers w text g has = has

@@ -18,7 +18,7 @@ pub cause_answers : (asked : Option Command) (before now : ShelfView) (cause : F
     ((g : Fault) → cause g → Due asked before reads (status_of g) (message g)) → now.counts.calls ≤ before.counts.calls + reads →
     0 < files_read asked → HasCause before now cause f → Answers asked before now (status_of f) (message f)
 cause_answers asked before now cause reads f due fetched some (inl failed) =
-    inr (inl (record { reads = some; status_is = ap status_of failed.0; text_is = ap message failed.0; counted = failed.1 }))
+    inr (inl (record { reads_files = some; status_is = ap status_of failed.0; text_is = ap message failed.0; counted = failed.1 }))
 cause_answers asked before now cause reads f due fetched some (inr (inl want)) =
     inr (inr (record { status_is = ap status_of want; text_is = ap message want }))
 cause_answers asked before now cause reads f due fetched some (inr (inr has)) =

@@ -57,7 +57,7 @@ due_tells None before now old new status.ReadFault text x wrote = let wrong : st
 due_tells (Some c) before now old new status.ReadFault text x wrote =
     let is = due_read_text c before x.reads text x.due in
     record {
-      reads = reads_some c before x.reads text x.due;
+      reads_files = reads_some c before x.reads text x.due;
       cause = inr (record { counted = x.absent refl; reads = x.reads; due = rw is at x.due; fetched = x.fetched });
       written = rw is at wrote;
     }
@@ -69,7 +69,7 @@ answer_tells : (asked : Option Command) (before now : ShelfView) (old new : Sink
     Writes old new text → Tells asked before now old new s
 answer_tells asked before now old new s text (inl x) wrote = due_tells asked before now old new s text x wrote
 answer_tells asked before now old new s text (inr (inl x)) wrote =
-    rw (x.status_is) (record { reads = x.reads; cause = inl x.counted; written = rw (x.text_is) at wrote })
+    rw (x.status_is) (record { reads_files = x.reads_files; cause = inl x.counted; written = rw (x.text_is) at wrote })
 answer_tells asked before now old new s text (inr (inr x)) wrote = rw (x.status_is) (rw (x.text_is) at wrote)
 
 pub tells : (asked : Option Command) (before now : ShelfView) (old new : SinkView) (r : Status) → Finishes asked before now old new r →
@@ -83,7 +83,7 @@ tells asked before now old new r ends =
 -- words that are no command
 none_answers : (before now : ShelfView) (s : Status) (text : List ℕ) → Answers None before now s text → (s ≡ status.Usage) ⊎ (s ≡ status.Memory)
 none_answers before now s text (inl x) = inl x.due.status_is
-none_answers before now s text (inr (inl x)) = absurd (let none : 0 < files_read None = x.reads in omega arith)
+none_answers before now s text (inr (inl x)) = absurd (let none : 0 < files_read None = x.reads_files in omega arith)
 none_answers before now s text (inr (inr x)) = inr x.status_is
 
 pub none_ends : (asked : Option Command) (before now : ShelfView) (old new : SinkView) (r : Status) → Finishes asked before now old new r →

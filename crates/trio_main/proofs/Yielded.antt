@@ -1,5 +1,5 @@
 -- For told files what two files yield is one thing.
-use Rattle.std.proofs.Common.{◌≡◌, ℕ, ◌<◌, ◌≤◌, inl, inr, true, List, length, Option, None, Some, Result, Ok, Err, refl, sym, ◌∙◌, ap, subst, arith}
+use Rattle.std.proofs.Common.{◌≡◌, ◌≢◌, ℕ, ◌<◌, ◌≤◌, inl, inr, true, List, length, Option, None, Some, Result, Ok, Err, refl, sym, ◌∙◌, ap, subst, arith}
 use Rattle.std.specs.Prelude.{IsSomeAnd}
 use Rattle.trio_io.specs.Outside.{ShelfView}
 use Rattle.trio_types.specs.declared.spec.Spec.{Spec}
@@ -7,13 +7,15 @@ use Rattle.trio_types.specs.World.{World}
 use Rattle.trio_types.specs.Parts.{world_of_parts}
 use Rattle.trio_types.specs.Verdict.{parts_of, world_of}
 use Rattle.trio_reader.specs.Laws.{OneSpecification, OneFault, FaultyIsNone}
+use Rattle.history_table.specs.declared.fault.HistFault.{HistFault}
 use Rattle.history_table.specs.declared.fault.HistFault.TheVariants as history_fault
-use Rattle.history_table.specs.History.{OneHistory}
+use Rattle.history_table.specs.History.{HasHistFault, OneHistory}
 use Rattle.trio_main.specs.declared.fault.Text.{Text}
 use Rattle.trio_main.specs.declared.fault.Text.TheVariants as text
 use Rattle.trio_main.specs.declared.fault.Fault.{Fault}
 use Rattle.trio_main.specs.Fault.{spec_refusal, history_refusal}
 use Rattle.trio_main.specs.Load.{limit_of, IsFile, FileFault, Yields, ReadsSpec, ReadsHistory, YieldsSpec, YieldsHistory, LoadFault, IsLoaded}
+use Rattle.trio_main.proofs.Histories.{no_want, fault_answers}
 
 pub same_world : (a b : Spec) → parts_of a ≡ parts_of b → world_of a ≡ world_of b
 same_world a b same = ap world_of_parts same
@@ -59,6 +61,11 @@ SameReading (Ok a) (Ok b) = parts_of a ≡ parts_of b
 SameReading (Err f) (Err g) = f ≡ g
 SameReading a b = ⊥
 
+-- a fault of a text is not want of memory
+is_no_want : (world : World) (bytes : List ℕ) (g : HistFault) (r : Result (List (Option ℕ)) HistFault) → r ≡ Err g →
+    HasHistFault world bytes g → r ≢ Err history_fault.Memory
+is_no_want world bytes g r is has = λ e. no_want world bytes g has (let same : g ≡ history_fault.Memory = cc in same)
+
 -- what is known of the readers
 module _ (one_spec : OneSpecification) (one_fault : OneFault) (none : FaultyIsNone) (one_history : OneHistory) where
   reads_spec_one : (bytes : List ℕ) (a b : Result Spec Fault) → ReadsSpec bytes a → ReadsSpec bytes b → SameReading a b
@@ -74,13 +81,13 @@ module _ (one_spec : OneSpecification) (one_fault : OneFault) (none : FaultyIsNo
       let one : Ok a ≡ Ok b = one_history world bytes (Ok a) (Ok b) (λ e. cc) (λ e. cc) x y in
       let same : a ≡ b = cc in ap Ok same
   reads_history_one world bytes (Ok a) (Err g) x y =
-      let one : Ok a ≡ Err y.0 = one_history world bytes (Ok a) (Err y.0) (λ e. cc) (λ e. y.1 (let same : y.0 ≡ history_fault.Memory = cc in same)) x y.2 in cc
+      let one : Ok a ≡ Err y.0 = one_history world bytes (Ok a) (Err y.0) (λ e. cc) (is_no_want world bytes y.0 (Err y.0) refl y.1) x (fault_answers world bytes y.0 y.1) in cc
   reads_history_one world bytes (Err f) (Ok b) x y =
-      let one : Err x.0 ≡ Ok b = one_history world bytes (Err x.0) (Ok b) (λ e. x.1 (let same : x.0 ≡ history_fault.Memory = cc in same)) (λ e. cc) x.2 y in cc
+      let one : Err x.0 ≡ Ok b = one_history world bytes (Err x.0) (Ok b) (is_no_want world bytes x.0 (Err x.0) refl x.1) (λ e. cc) (fault_answers world bytes x.0 x.1) y in cc
   reads_history_one world bytes (Err f) (Err g) x y =
-      let one : Err x.0 ≡ Err y.0 = one_history world bytes (Err x.0) (Err y.0)
-      (λ e. x.1 (let same : x.0 ≡ history_fault.Memory = cc in same)) (λ e. y.1 (let same : y.0 ≡ history_fault.Memory = cc in same)) x.2 y.2 in
-      let same : x.0 ≡ y.0 = cc in ap Err (x.3 ∙ ap (history_refusal world) same ∙ sym y.3)
+      let one : Err x.0 ≡ Err y.0 = one_history world bytes (Err x.0) (Err y.0) (is_no_want world bytes x.0 (Err x.0) refl x.1) (is_no_want world bytes y.0 (Err y.0) refl y.1)
+      (fault_answers world bytes x.0 x.1) (fault_answers world bytes y.0 y.1) in
+      let same : x.0 ≡ y.0 = cc in ap Err (x.2 ∙ ap (history_refusal world) same ∙ sym y.2)
 
   spec_one : (shelf : ShelfView) (name : List ℕ) (a b : Result Spec Fault) → shelf.tells ≡ true → YieldsSpec shelf name a →
       YieldsSpec shelf name b → SameReading a b

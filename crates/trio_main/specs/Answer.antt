@@ -1,4 +1,5 @@
--- What the top call answers: an answer with its cause was written to its end, or the writing of it failed.
+-- What the top call answers: an answer with its cause was written to its end, or the writing of it failed. `before` and `now` are the shelf
+-- before and after the call, `old` and `new` the sink.
 use Rattle.std.specs.Prelude.{◌≡◌, ◌≢◌, ℕ, ◌+◌, ◌<◌, ◌≤◌, ◌⊎◌, List, Option, Result, Ok, Err}
 use Rattle.trio_io.specs.Outside.{ShelfView, SinkView, Rose, Writes, WritesPart}
 use Rattle.trio_main.specs.declared.answer.Answer.{Answer}
@@ -22,7 +23,7 @@ pub record IsDue (asked : Option Command) (before now : ShelfView) (s : Status) 
 
 -- the command reads files, and a fetch failed, which was counted
 pub record IsUnread (asked : Option Command) (before now : ShelfView) (s : Status) (text : List ℕ) : Type 0 where
-  pub reads : 0 < files_read asked
+  pub reads_files : 0 < files_read asked
   pub status_is : s ≡ status.ReadFault
   pub text_is : text ≡ message fault.Read
   pub counted : Rose before.counts.failed_fetches now.counts.failed_fetches

@@ -1,5 +1,5 @@
 -- `check`: whether a history satisfies a specification.
-use Rattle.std.specs.Prelude.{◌≡◌, ℕ, ◌≤◌, ◌+◌, ◌⊎◌, List, [], ◌++◌, Option, None, Some, map, slice_get, codes, decimal, Result, Ok, Err}
+use Rattle.std.specs.Prelude.{◌≡◌, ℕ, ◌⊎◌, List, [], ◌++◌, Option, None, Some, map, slice_get, codes, decimal, Result, Ok, Err}
 use Rattle.trio_io.specs.Outside.{ShelfView, SinkView, Writes}
 use Rattle.trio_types.specs.declared.spec.Axiom.{Axiom}
 use Rattle.trio_types.specs.declared.spec.Spec.{Spec}
@@ -17,27 +17,31 @@ use Rattle.trio_main.specs.declared.fault.Fault.TheVariants as fault
 use Rattle.trio_main.specs.declared.command.Command.{Command}
 use Rattle.trio_main.specs.declared.command.Command.TheVariants as command
 use Rattle.trio_main.specs.Row.{name_of_row, row_of, instant_of}
-use Rattle.trio_main.specs.Fault.{status_of}
-use Rattle.trio_main.specs.Message.{message, SaysFault}
+use Rattle.trio_main.specs.Message.{SaysFault}
 use Rattle.trio_main.specs.Text.{text_of}
 use Rattle.trio_main.specs.Load.{LoadFault, IsLoaded}
+use Rattle.trio_main.specs.Refusal.{TellsRefused}
 
+-- the line that says that a specification is true
 abbrev pub true_line : List ℕ
 true_line = codes "true\n"
 
+-- the axiom's name; empty where there is no axiom
 abbrev pub name_of : Option Axiom → List ℕ
 name_of None = []
 name_of (Some a) = a.name
 
--- the axiom's name and the instant
+-- the line that says that it is false, with the name of the axiom of this number and the instant
 abbrev pub false_line : Spec → ℕ → ℕ → List ℕ
 false_line spec number instant =
     codes "false " ++ name_of (slice_get spec.axioms number) ++ codes " " ++ decimal instant ++ codes "\n"
 
+-- the status of a verdict
 abbrev pub verdict_status : Verdict → Status
 verdict_status verdict.True = status.Done
 verdict_status (verdict.False number instant) = status.False
 
+-- the line of a verdict
 abbrev pub verdict_text : Spec → Verdict → List ℕ
 verdict_text spec verdict.True = true_line
 verdict_text spec (verdict.False number instant) = false_line spec number instant
@@ -113,22 +117,14 @@ pub record TellsFalse (before : ShelfView) (spec_name history_name : List ℕ) (
   pub fails : IsVerdict before spec_name history_name spec (verdict.False number instant)
   pub written : Writes old new (false_line spec number instant)
 
--- status 4: the first fault of the files, in the order of the words, was written; for that of the first file the shelf was called once at most
-pub record TellsRefused (before now : ShelfView) (spec_name history_name : List ℕ) (old new : SinkView) : Type 0 where
-  pub reads : ℕ
-  pub named : Fault
-  pub is_refusal : status_of named ≡ status.Refused
-  pub first : CheckFault before spec_name history_name reads named
-  pub fetched : now.counts.calls ≤ before.counts.calls + reads
-  pub written : Writes old new (message named)
-
 -- what a status tells of `check` and its files; the others are those of every command
 abbrev pub CheckTells : ShelfView → ShelfView → List ℕ → List ℕ → SinkView → SinkView → Status → Type 0
 CheckTells before now spec_name history_name old new status.Done = TellsTrue before spec_name history_name old new
 CheckTells before now spec_name history_name old new status.False = TellsFalse before spec_name history_name old new
-CheckTells before now spec_name history_name old new status.Refused = TellsRefused before now spec_name history_name old new
+CheckTells before now spec_name history_name old new status.Refused = TellsRefused (CheckFault before spec_name history_name) before now old new
 CheckTells before now spec_name history_name old new s = Unit {0}
 
+-- what a status tells where the command is `check`
 abbrev pub TellsCheck : Option Command → ShelfView → ShelfView → SinkView → SinkView → Status → Type 0
 TellsCheck asked before now old new s =
     (spec_name history_name : List ℕ) → asked ≡ Some (command.Check spec_name history_name) → CheckTells before now spec_name history_name old new s

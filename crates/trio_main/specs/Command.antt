@@ -38,6 +38,7 @@ saved_name None = None
 saved_name (Some (command.Check spec history)) = None
 saved_name (Some (command.Complete spec history)) = None
 
+-- 1 where there is a name, and else 0
 abbrev one_if_some : Option (List ℕ) → ℕ
 one_if_some None = 0
 one_if_some (Some name) = 1

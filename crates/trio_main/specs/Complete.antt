@@ -1,5 +1,5 @@
 -- `complete`: every complete history that extends a given one and makes the specification true.
-use Rattle.std.specs.Prelude.{◌≡◌, ℕ, ◌+◌, ◌≤◌, ◌⊎◌, Bool, ◌&&◌, List, filter, Option, Some}
+use Rattle.std.specs.Prelude.{◌≡◌, ℕ, ◌⊎◌, Bool, ◌&&◌, List, filter, Option, Some}
 use Rattle.trio_io.specs.Outside.{ShelfView, SinkView, Writes}
 use Rattle.trio_types.specs.declared.spec.Spec.{Spec}
 use Rattle.trio_types.specs.Verdict.{world_of, is_true_in}
@@ -8,12 +8,11 @@ use Rattle.history_table.specs.Texts.{list_text}
 use Rattle.branch_state.specs.Models.{all_tables}
 use Rattle.trio_main.specs.declared.status.Status.{Status}
 use Rattle.trio_main.specs.declared.status.Status.TheVariants as status
-use Rattle.trio_main.specs.declared.fault.Fault.{Fault}
 use Rattle.trio_main.specs.declared.command.Command.{Command}
 use Rattle.trio_main.specs.declared.command.Command.TheVariants as command
-use Rattle.trio_main.specs.Fault.{status_of}
-use Rattle.trio_main.specs.Message.{message, SaysFault}
+use Rattle.trio_main.specs.Message.{SaysFault}
 use Rattle.trio_main.specs.Load.{LoadFault, IsLoaded}
+use Rattle.trio_main.specs.Refusal.{TellsRefused}
 
 -- a table extends the given history and makes the specification true
 abbrev pub completes : Spec → List (Option ℕ) → List ℕ → Bool
@@ -51,22 +50,14 @@ pub record TellsCompletions (before : ShelfView) (spec_name history_name : List 
   pub lists : IsCompletion before spec_name history_name text
   pub written : Writes old new text
 
--- status 4: the first fault of the files, in the order of the words, was written; for that of the first file the shelf was called once at most
-pub record TellsUnfit (before now : ShelfView) (spec_name history_name : List ℕ) (old new : SinkView) : Type 0 where
-  pub reads : ℕ
-  pub named : Fault
-  pub is_refusal : status_of named ≡ status.Refused
-  pub first : LoadFault before spec_name history_name reads named
-  pub fetched : now.counts.calls ≤ before.counts.calls + reads
-  pub written : Writes old new (message named)
-
 -- what a status tells of `complete` and its files; the others are those of every command, and it never ends with status 1
 abbrev pub CompleteTells : ShelfView → ShelfView → List ℕ → List ℕ → SinkView → SinkView → Status → Type 0
 CompleteTells before now spec_name history_name old new status.Done = TellsCompletions before spec_name history_name old new
 CompleteTells before now spec_name history_name old new status.False = ⊥
-CompleteTells before now spec_name history_name old new status.Refused = TellsUnfit before now spec_name history_name old new
+CompleteTells before now spec_name history_name old new status.Refused = TellsRefused (LoadFault before spec_name history_name) before now old new
 CompleteTells before now spec_name history_name old new s = Unit {0}
 
+-- what a status tells where the command is `complete`
 abbrev pub TellsComplete : Option Command → ShelfView → ShelfView → SinkView → SinkView → Status → Type 0
 TellsComplete asked before now old new s =
     (spec_name history_name : List ℕ) → asked ≡ Some (command.Complete spec_name history_name) →

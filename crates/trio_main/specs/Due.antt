@@ -15,6 +15,7 @@ pub record UsageDue (reads : ℕ) (s : Status) (text : List ℕ) : Type 0 where
   pub status_is : s ≡ status.Usage
   pub text_is : text ≡ usage_line
 
+-- this status and this text are due, and it takes this many files to know it
 abbrev pub Due : Option Command → ShelfView → ℕ → Status → List ℕ → Type 0
 Due None shelf = UsageDue
 Due (Some (command.Check spec_name history_name)) shelf = CheckDue shelf spec_name history_name

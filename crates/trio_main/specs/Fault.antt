@@ -10,6 +10,7 @@ use Rattle.trio_main.specs.declared.fault.Fault.{Fault}
 use Rattle.trio_main.specs.declared.fault.Fault.TheVariants as fault
 use Rattle.trio_main.specs.Row.{name_of_row}
 
+-- how a command with this fault ends
 abbrev pub status_of : Fault → Status
 status_of fault.Read = status.ReadFault
 status_of (fault.TooLong which) = status.Refused

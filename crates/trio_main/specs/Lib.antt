@@ -4,8 +4,10 @@ pub mod Command
 pub mod Complete
 pub mod Due
 pub mod Fault
+pub mod Laws
 pub mod Load
 pub mod Message
+pub mod Refusal
 pub mod Row
 pub mod Status
 pub mod Tell

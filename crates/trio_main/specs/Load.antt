@@ -9,8 +9,7 @@ use Rattle.trio_reader.specs.declared.fault.SpecFault.{SpecFault}
 use Rattle.trio_reader.specs.declared.fault.SpecFault.TheVariants as spec_fault
 use Rattle.trio_reader.specs.Reading.{IsSpecText, HasFault}
 use Rattle.history_table.specs.declared.fault.HistFault.{HistFault}
-use Rattle.history_table.specs.declared.fault.HistFault.TheVariants as history_fault
-use Rattle.history_table.specs.History.{IsHistoryAnswer}
+use Rattle.history_table.specs.History.{IsGivenText, HasHistFault}
 use Rattle.derived_ops.specs.Rewritten.{IsRewriting}
 use Rattle.branch_state.specs.Posed.{Posed}
 use Rattle.trio_main.specs.declared.fault.Text.{Text}
@@ -49,12 +48,14 @@ ReadsSpec bytes (Err f) = (g : SpecFault) × (g ≢ spec_fault.Memory) × HasFau
 
 -- the bytes are this given history, or this is their first fault
 abbrev pub ReadsHistory : World → List ℕ → Result (List (Option ℕ)) Fault → Type 0
-ReadsHistory world bytes (Ok given) = IsHistoryAnswer world bytes (Ok given)
-ReadsHistory world bytes (Err f) = (g : HistFault) × (g ≢ history_fault.Memory) × IsHistoryAnswer world bytes (Err g) × (f ≡ history_refusal world g)
+ReadsHistory world bytes (Ok given) = IsGivenText world bytes given
+ReadsHistory world bytes (Err f) = (g : HistFault) × HasHistFault world bytes g × (f ≡ history_refusal world g)
 
+-- what the file under a name yields as a specification
 abbrev pub YieldsSpec : ShelfView → List ℕ → Result Spec Fault → Type 0
 YieldsSpec = Yields ReadsSpec text.Spec
 
+-- what it yields as a given history over the rows of a specification
 abbrev pub YieldsHistory : World → ShelfView → List ℕ → Result (List (Option ℕ)) Fault → Type 0
 YieldsHistory world = Yields (ReadsHistory world) text.History
 

@@ -32,10 +32,11 @@ pub record IsAbsent (asked : Option Command) (before now : ShelfView) (text : Li
 
 -- status 5: the command reads files, and a failed fetch was counted, or an absence
 pub record TellsUnread (asked : Option Command) (before now : ShelfView) (old new : SinkView) : Type 0 where
-  pub reads : 0 < files_read asked
+  pub reads_files : 0 < files_read asked
   pub cause : Rose before.counts.failed_fetches now.counts.failed_fetches ⊎ IsAbsent asked before now (message fault.Read)
   pub written : Writes old new (message fault.Read)
 
+-- what each status tells of the command, its files and the sink
 abbrev pub Tells : Option Command → ShelfView → ShelfView → SinkView → SinkView → Status → Type 0
 Tells asked before now old new status.Usage = TellsUsage asked old new
 Tells asked before now old new status.ReadFault = TellsUnread asked before now old new

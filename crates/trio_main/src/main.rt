@@ -8,6 +8,7 @@ mod check;
 mod command;
 mod complete;
 mod fault;
+mod laws;
 mod listing;
 mod load;
 mod message;

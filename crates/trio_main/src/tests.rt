@@ -89,12 +89,34 @@ fn checked(alloc: Global, spec: &[u8], history: &[u8]) -> Result<Vec<u8>, AllocE
     answered(alloc, "check s h", files, Counts::new(alloc), ample(alloc)?)
 }
 
+/// Asserts that an answer is the one of a row.
+fn is_due(rt: &(impl Abort + AllocGlobal), answer: &[u8], want: &str, row: &str) {
+    assert_eq!(rt; answer, want.as_bytes(), "{row}");
+}
+
 /// Asserts the answer in the last column for the specification and the history in the others.
 fn check_row(rt: &(impl Abort + AllocGlobal), row: &str) -> Result<(), Fail> {
     let (spec, rest) = cut(row);
     let (history, want) = cut(rest);
     let answer = checked(rt.alloc(), spec.as_bytes(), history.as_bytes())?;
-    assert_eq!(rt; answer.as_slice(), want.as_bytes(), "{row}");
+    is_due(rt, answer.as_slice(), want, row);
+    Ok(())
+}
+
+/// Asserts each row.
+fn check_all(rt: &(impl Abort + AllocGlobal), rows: &[&str]) -> Result<(), Fail> {
+    for row in rows {
+        check_row(rt, row)?;
+    }
+    Ok(())
+}
+
+/// Asserts each row behind what stands before all of them.
+fn check_behind(rt: &(impl Abort + AllocGlobal), before: &str, rows: &[&str]) -> Result<(), Fail> {
+    for row in rows {
+        let row = format!(in rt.alloc(); "{before}{row}")?;
+        check_row(rt, row.as_str())?;
+    }
     Ok(())
 }
 
@@ -104,134 +126,167 @@ fn answer_is(rt: &(impl Abort + AllocGlobal), spec: &str, want: &str) -> Result<
     check_row(rt, row.as_str())
 }
 
+/// A specification, a history, and the answer of `check`.
+const VERDICTS_AND_REFUSALS: [&str; 14] = [
+    "time 3; item p : bool; axiom A : p -> Dist(p, 1); ~ p: 0 0 0\n ~ 0 true\n",
+    "time 3; item p : bool; axiom A : p -> Dist(p, 1); ~ p: 0 1 1 ~ 1 false A 2\n",
+    "time 3; item p : bool; axiom A : p -> Dist(p, 1); ~ p: 1 0 1 ~ 1 false A 0\n",
+    "time 3; item p : bool; axiom A : p -> Dist(p, 1); ~ p: 0 ? 1 ~ 4 unknown p 1\n",
+    "time 3; item p : bool; axiom A : p -> Futr(p, 1); ~ p: 0 0 0 ~ 0 true\n",
+    "time 3; item p : bool; axiom A : q; ~ p: 0 ? 1 ~ 4 refused spec unknown 11\n",
+    "time 1; axiom A : false; axiom B : true; ~  ~ 1 false A 0\n",
+    "time 2; axiom A : true; axiom B at 1 : Dist(true, 1); ~  ~ 1 false B 1\n",
+    "time 3;\nitem p : bool;\naxiom A : p @ q; ~  ~ 4 refused spec lex 35\n",
+    "time 3; item p bool; ~  ~ 4 refused spec syntax 5\n",
+    "time 1; item p : bool; item p : bool; ~  ~ 4 refused spec twice 9\n",
+    "time 1; item p : bool; axiom A : 1; ~  ~ 4 refused spec kind 11\n",
+    "time 0; ~  ~ 4 refused spec range 1\n",
+    "time 205; item a : bool; item b : bool; item c : bool; item d : bool; item e : bool; ~  ~ 4 refused spec limit cells 1025\n",
+];
+
 #[test]
 fn verdicts_and_refusals(rt: HostRuntime) -> Result<(), Fail> {
-    let rows = [
-        "time 3; item p : bool; axiom A : p -> Dist(p, 1); ~ p: 0 0 0\n ~ 0 true\n",
-        "time 3; item p : bool; axiom A : p -> Dist(p, 1); ~ p: 0 1 1 ~ 1 false A 2\n",
-        "time 3; item p : bool; axiom A : p -> Dist(p, 1); ~ p: 1 0 1 ~ 1 false A 0\n",
-        "time 3; item p : bool; axiom A : p -> Dist(p, 1); ~ p: 0 ? 1 ~ 4 unknown p 1\n",
-        "time 3; item p : bool; axiom A : p -> Futr(p, 1); ~ p: 0 0 0 ~ 0 true\n",
-        "time 3; item p : bool; axiom A : q; ~ p: 0 ? 1 ~ 4 refused spec unknown 11\n",
-        "time 1; axiom A : false; axiom B : true; ~  ~ 1 false A 0\n",
-        "time 2; axiom A : true; axiom B at 1 : Dist(true, 1); ~  ~ 1 false B 1\n",
-        "time 3;\nitem p : bool;\naxiom A : p @ q; ~  ~ 4 refused spec lex 35\n",
-        "time 3; item p bool; ~  ~ 4 refused spec syntax 5\n",
-        "time 1; item p : bool; item p : bool; ~  ~ 4 refused spec twice 9\n",
-        "time 1; item p : bool; axiom A : 1; ~  ~ 4 refused spec kind 11\n",
-        "time 0; ~  ~ 4 refused spec range 1\n",
-        "time 205; item a : bool; item b : bool; item c : bool; item d : bool; item e : bool; ~  ~ 4 refused spec limit cells 1025\n",
-    ];
-    for row in rows {
-        check_row(&rt, row)?;
-    }
+    check_all(&rt, &VERDICTS_AND_REFUSALS)
+}
+
+/// Words that are answered with the usage line.
+const NO_COMMANDS: [&str; 23] = [
+    "",
+    "check",
+    "check s",
+    "check s h x",
+    "check --s h",
+    "check s --h",
+    "check -- h",
+    "check _ h",
+    "check s _",
+    "Check s h",
+    "--check s h",
+    "_ s h",
+    "complete",
+    "complete s",
+    "complete s h x",
+    "complete s --h",
+    "complete _ h",
+    "complete s h --limit=2",
+    "complete --workers=1 s h",
+    "Complete s h",
+    "s h check",
+    "--help",
+    "--version",
+];
+
+/// Asserts that the words of a line are answered with the usage line, though no file can be fetched.
+fn is_no_command(rt: &(impl Abort + AllocGlobal), line: &str) -> Result<(), Fail> {
+    let alloc = rt.alloc();
+    let files = two_files(alloc, IMPLIES_NEXT.as_bytes(), b"p: 0 0 0")?;
+    let failing = Counts::from_slice(alloc, &[1, 2, 3])?;
+    let answer = answered(alloc, line, files, failing, ample(alloc)?)?;
+    is_due(rt, answer.as_slice(), USAGE, line);
     Ok(())
 }
 
 #[test]
 fn words_that_are_no_command(rt: HostRuntime) -> Result<(), Fail> {
-    let alloc = rt.alloc();
-    let lines = [
-        "",
-        "check",
-        "check s",
-        "check s h x",
-        "check --s h",
-        "check s --h",
-        "check -- h",
-        "check _ h",
-        "check s _",
-        "Check s h",
-        "--check s h",
-        "_ s h",
-        "complete",
-        "complete s",
-        "complete s h x",
-        "complete s --h",
-        "complete _ h",
-        "complete s h --limit=2",
-        "complete --workers=1 s h",
-        "Complete s h",
-        "s h check",
-        "--help",
-        "--version",
-    ];
-    for line in lines {
-        let files = two_files(alloc, IMPLIES_NEXT.as_bytes(), b"p: 0 0 0")?;
-        let failing = Counts::from_slice(alloc, &[1, 2, 3])?;
-        let answer = answered(alloc, line, files, failing, ample(alloc)?)?;
-        assert_eq!(rt; answer.as_slice(), USAGE.as_bytes(), "{line}");
+    for line in &NO_COMMANDS {
+        is_no_command(&rt, line)?;
     }
+    Ok(())
+}
+
+/// The number of the fetch that fails, the words, the names of the files that there are, and the answer.
+const FAILING_FETCHES: [(u64, &str); 13] = [
+    (0, "check s h ~ s h ~ 0 true\n"),
+    (1, "check s h ~ s h ~ 5 fault read\n"),
+    (2, "check s h ~ s h ~ 5 fault read\n"),
+    (3, "check s h ~ s h ~ 0 true\n"),
+    (0, "check s h ~ h ~ 5 fault read\n"),
+    (0, "check s h ~ s ~ 5 fault read\n"),
+    (2, "check h h ~ s h ~ 4 refused spec syntax 0\n"),
+    (0, "check s s ~ s h ~ 4 refused history syntax 1\n"),
+    (0, "check - -x ~ s h ~ 5 fault read\n"),
+    (1, "complete s h ~ s h ~ 5 fault read\n"),
+    (2, "complete s h ~ s h ~ 5 fault read\n"),
+    (0, "complete s h ~ h ~ 5 fault read\n"),
+    (0, "complete s h ~ s ~ 5 fault read\n"),
+];
+
+/// The files of these names: `s` with a specification, and every other with a history.
+fn files_named(alloc: Global, names: &str) -> Result<Files, AllocError> {
+    let mut files = Files::new(alloc);
+    for name in names.split_whitespace() {
+        let text = if name == "s" {
+            IMPLIES_NEXT
+        } else {
+            "p: 0 0 0"
+        };
+        files.push(name, text.as_bytes())?;
+    }
+    Ok(files)
+}
+
+/// Asserts the answer where this fetch fails.
+fn fetch_row(rt: &(impl Abort + AllocGlobal), failing: u64, row: &str) -> Result<(), Fail> {
+    let alloc = rt.alloc();
+    let (line, rest) = cut(row);
+    let (names, want) = cut(rest);
+    let failing = Counts::from_slice(alloc, &[failing])?;
+    let answer = answered(
+        alloc,
+        line,
+        files_named(alloc, names)?,
+        failing,
+        ample(alloc)?,
+    )?;
+    is_due(rt, answer.as_slice(), want, row);
     Ok(())
 }
 
 #[test]
 fn fetches_that_fail(rt: HostRuntime) -> Result<(), Fail> {
-    let alloc = rt.alloc();
-    let rows = [
-        (0, "check s h ~ s h ~ 0 true\n"),
-        (1, "check s h ~ s h ~ 5 fault read\n"),
-        (2, "check s h ~ s h ~ 5 fault read\n"),
-        (3, "check s h ~ s h ~ 0 true\n"),
-        (0, "check s h ~ h ~ 5 fault read\n"),
-        (0, "check s h ~ s ~ 5 fault read\n"),
-        (2, "check h h ~ s h ~ 4 refused spec syntax 0\n"),
-        (0, "check s s ~ s h ~ 4 refused history syntax 1\n"),
-        (0, "check - -x ~ s h ~ 5 fault read\n"),
-        (1, "complete s h ~ s h ~ 5 fault read\n"),
-        (2, "complete s h ~ s h ~ 5 fault read\n"),
-        (0, "complete s h ~ h ~ 5 fault read\n"),
-        (0, "complete s h ~ s ~ 5 fault read\n"),
-    ];
-    for (failing, row) in rows {
-        let (line, rest) = cut(row);
-        let (names, want) = cut(rest);
-        let mut files = Files::new(alloc);
-        for name in names.split_whitespace() {
-            let text = if name == "s" {
-                IMPLIES_NEXT
-            } else {
-                "p: 0 0 0"
-            };
-            files.push(name, text.as_bytes())?;
-        }
-        let failing = Counts::from_slice(alloc, &[failing])?;
-        let answer = answered(alloc, line, files, failing, ample(alloc)?)?;
-        assert_eq!(rt; answer.as_slice(), want.as_bytes(), "{row}");
+    for (failing, row) in &FAILING_FETCHES {
+        fetch_row(&rt, *failing, row)?;
     }
+    Ok(())
+}
+
+/// The room, the most bytes a write, the number of the write that fails, the history, and the answer.
+const FAILING_WRITES: [(u64, u64, u64, &str); 16] = [
+    (4096, 1, 0, "p: 0 0 0 ~ 0 true\n"),
+    (4096, 1, 1, "p: 0 0 0 ~ 6 "),
+    (4096, 1, 2, "p: 0 0 0 ~ 6 t"),
+    (4096, 1, 5, "p: 0 0 0 ~ 6 true"),
+    (4096, 1, 6, "p: 0 0 0 ~ 0 true\n"),
+    (4096, 2, 2, "p: 0 1 1 ~ 6 fa"),
+    (4096, 2, 5, "p: 0 1 1 ~ 6 false A "),
+    (4096, 1000, 1, "p: 0 1 1 ~ 6 "),
+    (4096, 1000, 2, "p: 0 1 1 ~ 1 false A 2\n"),
+    (4096, 2, 3, "p: 0 1 ~ 6 refu"),
+    (4096, 1000, 2, "p: 0 1 ~ 6 refused history length "),
+    (4096, 1000, 4, "p: 0 1 ~ 4 refused history length 1\n"),
+    (0, 1000, 0, "p: 0 0 0 ~ 6 "),
+    (3, 1000, 0, "p: 0 0 0 ~ 6 tru"),
+    (5, 1000, 0, "p: 0 0 0 ~ 0 true\n"),
+    (9, 2, 0, "p: 0 1 1 ~ 6 false A 2"),
+];
+
+/// Asserts the answer of `check` into this sink.
+fn write_row(rt: &(impl Abort + AllocGlobal), out: MemSink, row: &str) -> Result<(), Fail> {
+    let alloc = rt.alloc();
+    let (history, want) = cut(row);
+    let files = two_files(alloc, IMPLIES_NEXT.as_bytes(), history.as_bytes())?;
+    let answer = answered(alloc, "check s h", files, Counts::new(alloc), out)?;
+    is_due(rt, answer.as_slice(), want, row);
     Ok(())
 }
 
 #[test]
 fn writes_that_fail(rt: HostRuntime) -> Result<(), Fail> {
     let alloc = rt.alloc();
-    // The room, the most bytes a write, the number of the write that fails, the history, and the answer.
-    let rows = [
-        (4096, 1, 0, "p: 0 0 0 ~ 0 true\n"),
-        (4096, 1, 1, "p: 0 0 0 ~ 6 "),
-        (4096, 1, 2, "p: 0 0 0 ~ 6 t"),
-        (4096, 1, 5, "p: 0 0 0 ~ 6 true"),
-        (4096, 1, 6, "p: 0 0 0 ~ 0 true\n"),
-        (4096, 2, 2, "p: 0 1 1 ~ 6 fa"),
-        (4096, 2, 5, "p: 0 1 1 ~ 6 false A "),
-        (4096, 1000, 1, "p: 0 1 1 ~ 6 "),
-        (4096, 1000, 2, "p: 0 1 1 ~ 1 false A 2\n"),
-        (4096, 2, 3, "p: 0 1 ~ 6 refu"),
-        (4096, 1000, 2, "p: 0 1 ~ 6 refused history length "),
-        (4096, 1000, 4, "p: 0 1 ~ 4 refused history length 1\n"),
-        (0, 1000, 0, "p: 0 0 0 ~ 6 "),
-        (3, 1000, 0, "p: 0 0 0 ~ 6 tru"),
-        (5, 1000, 0, "p: 0 0 0 ~ 0 true\n"),
-        (9, 2, 0, "p: 0 1 1 ~ 6 false A 2"),
-    ];
-    for (room, most, failing, row) in rows {
-        let (history, want) = cut(row);
-        let files = two_files(alloc, IMPLIES_NEXT.as_bytes(), history.as_bytes())?;
-        assert!(rt; 0 < most);
-        let failing = Counts::from_slice(alloc, &[failing])?;
-        let out = MemSink::new(alloc, room, most, failing)?;
-        let answer = answered(alloc, "check s h", files, Counts::new(alloc), out)?;
-        assert_eq!(rt; answer.as_slice(), want.as_bytes(), "{room} {most} {row}");
+    for (room, most, failing, row) in &FAILING_WRITES {
+        assert!(rt; 0 < *most);
+        let failing = Counts::from_slice(alloc, &[*failing])?;
+        write_row(&rt, MemSink::new(alloc, *room, *most, failing)?, row)?;
     }
     Ok(())
 }
@@ -245,29 +300,48 @@ fn padded(alloc: Global, text: &str, length: usize) -> Result<Vec<u8>, AllocErro
     Ok(bytes)
 }
 
+/// The specification and the history, the lengths of their files where those are longer, and the answer.
+const LONG_AND_EMPTY: [(&str, usize, usize, &str); 7] = [
+    (IMPLIES_NEXT, 262_144, 1_048_576, "p: 0 0 0 ~ 0 true\n"),
+    (IMPLIES_NEXT, 262_145, 9, "p: 0 0 0 ~ 4 refused spec long\n"),
+    (
+        IMPLIES_NEXT,
+        99,
+        1_048_577,
+        "p: 0 0 0 ~ 4 refused history long\n",
+    ),
+    (IMPLIES_NEXT, 99, 0, " ~ 4 refused history missing p\n"),
+    (
+        "time 0;",
+        0,
+        1_048_577,
+        "p: 0 0 0 ~ 4 refused spec range 1\n",
+    ),
+    ("", 0, 0, "p: 0 0 0 ~ 4 refused spec syntax 0\n"),
+    ("time 1;", 0, 0, " ~ 0 true\n"),
+];
+
+/// The answer of `check` where blanks stand behind both texts.
+fn padded_answer(
+    alloc: Global,
+    spec: &str,
+    spec_length: usize,
+    history: &str,
+    history_length: usize,
+) -> Result<Vec<u8>, AllocError> {
+    let spec = padded(alloc, spec, spec_length)?;
+    let history = padded(alloc, history, history_length)?;
+    checked(alloc, spec.as_slice(), history.as_slice())
+}
+
 #[test]
 fn long_and_empty_files(rt: HostRuntime) -> Result<(), Fail> {
-    let alloc = rt.alloc();
-    // The lengths of the two files, the specification, the history, and the answer.
-    let spec = "time 3; item p : bool; axiom A : p -> Dist(p, 1);";
-    let rows = [
-        (262_144, 1_048_576, "p: 0 0 0 ~ 0 true\n"),
-        (262_145, 9, "p: 0 0 0 ~ 4 refused spec long\n"),
-        (99, 1_048_577, "p: 0 0 0 ~ 4 refused history long\n"),
-        (99, 0, " ~ 4 refused history missing p\n"),
-    ];
-    for (spec_length, history_length, row) in rows {
+    for (spec, spec_length, history_length, row) in &LONG_AND_EMPTY {
         let (history, want) = cut(row);
-        let spec = padded(alloc, spec, spec_length)?;
-        let history = padded(alloc, history, history_length)?;
-        let answer = checked(alloc, spec.as_slice(), history.as_slice())?;
-        assert_eq!(rt; answer.as_slice(), want.as_bytes(), "{row}");
+        let answer = padded_answer(rt.alloc(), spec, *spec_length, history, *history_length)?;
+        is_due(&rt, answer.as_slice(), want, row);
     }
-    let history = padded(alloc, "p: 0 0 0", 1_048_577)?;
-    let answer = checked(alloc, b"time 0;", history.as_slice())?;
-    assert_eq!(rt; answer.as_slice(), b"4 refused spec range 1\n".as_slice());
-    check_row(&rt, " ~ p: 0 0 0 ~ 4 refused spec syntax 0\n")?;
-    check_row(&rt, "time 1; ~  ~ 0 true\n")
+    Ok(())
 }
 
 /// For runs in which one allocation fails: each answer is the row's or want of memory. An allocation of the test's own that fails ends it.
@@ -287,82 +361,89 @@ fn memory_may_run_out(rt: HostRuntime) {
     }
 }
 
+/// The axioms, the values of `p` at the three instants, and the answer of `check`.
+const TRUTHS: [&str; 16] = [
+    "axiom A : p | !p; ~ p: 0 1 1 ~ 0 true\n",
+    "axiom A : true -> [p]; ~ p: 1 1 0 ~ 1 false A 2\n",
+    "axiom A : p & p | false; ~ p: 1 0 1 ~ 1 false A 1\n",
+    "axiom A : Dist(p, -1) -> p; ~ p: 0 1 0 ~ 1 false A 2\n",
+    "axiom A : Dist(p, 1) | Dist(true, -2); ~ p: 0 1 1 ~ 0 true\n",
+    "axiom A : Dist(!p, 1); ~ p: 1 0 0 ~ 1 false A 2\n",
+    "axiom A : !Dist(p, 1); ~ p: 1 0 0 ~ 0 true\n",
+    "axiom A : Dist(Dist(p, 1), -1) -> p; ~ p: 1 0 1 ~ 0 true\n",
+    "axiom A at 0 : Dist(true, 2) & !Dist(true, 3); ~ p: 0 0 0 ~ 0 true\n",
+    "axiom A at 2 : Dist(true, -3); ~ p: 0 0 0 ~ 1 false A 2\n",
+    "axiom A : Dist(p, -0) -> Dist(p, 0); ~ p: 0 1 0 ~ 0 true\n",
+    "axiom A : Dist(true, 1000000); ~ p: 1 1 1 ~ 1 false A 0\n",
+    "axiom A : !Dist(true, -1000000); ~ p: 1 1 1 ~ 0 true\n",
+    "axiom A at 1 : p; axiom B : p; ~ p: 0 1 1 ~ 1 false B 0\n",
+    "axiom A : p; axiom B : false; ~ p: 1 1 0 ~ 1 false A 2\n",
+    " ~ p: 0 1 0 ~ 0 true\n",
+];
+
 #[test]
 fn truth_of_each_form(rt: HostRuntime) -> Result<(), Fail> {
-    let rows = [
-        "axiom A : p | !p; ~ p: 0 1 1 ~ 0 true\n",
-        "axiom A : true -> [p]; ~ p: 1 1 0 ~ 1 false A 2\n",
-        "axiom A : p & p | false; ~ p: 1 0 1 ~ 1 false A 1\n",
-        "axiom A : Dist(p, -1) -> p; ~ p: 0 1 0 ~ 1 false A 2\n",
-        "axiom A : Dist(p, 1) | Dist(true, -2); ~ p: 0 1 1 ~ 0 true\n",
-        "axiom A : Dist(!p, 1); ~ p: 1 0 0 ~ 1 false A 2\n",
-        "axiom A : !Dist(p, 1); ~ p: 1 0 0 ~ 0 true\n",
-        "axiom A : Dist(Dist(p, 1), -1) -> p; ~ p: 1 0 1 ~ 0 true\n",
-        "axiom A at 0 : Dist(true, 2) & !Dist(true, 3); ~ p: 0 0 0 ~ 0 true\n",
-        "axiom A at 2 : Dist(true, -3); ~ p: 0 0 0 ~ 1 false A 2\n",
-        "axiom A : Dist(p, -0) -> Dist(p, 0); ~ p: 0 1 0 ~ 0 true\n",
-        "axiom A : Dist(true, 1000000); ~ p: 1 1 1 ~ 1 false A 0\n",
-        "axiom A : !Dist(true, -1000000); ~ p: 1 1 1 ~ 0 true\n",
-        "axiom A at 1 : p; axiom B : p; ~ p: 0 1 1 ~ 1 false B 0\n",
-        "axiom A : p; axiom B : false; ~ p: 1 1 0 ~ 1 false A 2\n",
-        " ~ p: 0 1 0 ~ 0 true\n",
-    ];
-    for row in rows {
-        let row = format!(in rt.alloc(); "time 3; item p : bool; {row}")?;
-        check_row(&rt, row.as_str())?;
-    }
-    Ok(())
+    check_behind(&rt, "time 3; item p : bool; ", &TRUTHS)
 }
+
+/// A history of `p` and `q` over two instants, and the answer of `check`.
+const HISTORIES: [&str; 25] = [
+    "p: 0 1\nq: 1 1 ~ 0 true\n",
+    "p:0 1\nq:0 0\n ~ 1 false A 1\n",
+    "q: true true // all\n\n p\t:\t0 01\r\n ~ 0 true\n",
+    "p: 000 true\nq: - 0 -0 ~ 1 false A 1\n",
+    "// none\np: false 1//1\nq: -00 1 ~ 0 true\n",
+    " ~ 4 refused history missing p\n",
+    "// p: 0 1 ~ 4 refused history missing p\n",
+    "p: 0 1 ~ 4 refused history missing q\n",
+    "p: 0 1\nq: 1 1\np: 0 1 ~ 4 refused history twicerow 3\n",
+    "p: 0 1\nq: 1 ~ 4 refused history length 2\n",
+    "p: 0 1\nq: 1 1 1 ~ 4 refused history length 2\n",
+    "p: 01\nq: 1 1 ~ 4 refused history length 1\n",
+    "p: 0 2\nq: 1 1 ~ 4 refused history value 1 2\n",
+    "p: 0 -1\nq: 1 1 ~ 4 refused history value 1 2\n",
+    "p: 0 x\nq: 1 1 ~ 4 refused history value 1 2\n",
+    "p: 0 ?\nq: 1 1 ~ 4 unknown p 1\n",
+    "p: 0 1\nq: ? ? ~ 4 unknown q 0\n",
+    "r: 0 1\np: 0 1\nq: 1 1 ~ 4 refused history unknownrow 1\n",
+    "A: 0 1\np: 0 1\nq: 1 1 ~ 4 refused history unknownrow 1\n",
+    "p 0 1\nq: 1 1 ~ 4 refused history syntax 1\n",
+    "p: 0 1 q: 1 1 ~ 4 refused history syntax 1\n",
+    "p(): 0 1\nq: 1 1 ~ 4 refused history syntax 1\n",
+    "p: 0\n1\nq: 1 1 ~ 4 refused history length 1\n",
+    "p: 0 -\n1\nq: 1 1 ~ 4 refused history syntax 1\n",
+    "p: 0 1\nq: 1 1\n/ ~ 4 refused history lex 14\n",
+];
 
 #[test]
 fn histories_in_every_form(rt: HostRuntime) -> Result<(), Fail> {
-    let rows = [
-        "p: 0 1\nq: 1 1 ~ 0 true\n",
-        "p:0 1\nq:0 0\n ~ 1 false A 1\n",
-        "q: true true // all\n\n p\t:\t0 01\r\n ~ 0 true\n",
-        "p: 000 true\nq: - 0 -0 ~ 1 false A 1\n",
-        "// none\np: false 1//1\nq: -00 1 ~ 0 true\n",
-        " ~ 4 refused history missing p\n",
-        "// p: 0 1 ~ 4 refused history missing p\n",
-        "p: 0 1 ~ 4 refused history missing q\n",
-        "p: 0 1\nq: 1 1\np: 0 1 ~ 4 refused history twicerow 3\n",
-        "p: 0 1\nq: 1 ~ 4 refused history length 2\n",
-        "p: 0 1\nq: 1 1 1 ~ 4 refused history length 2\n",
-        "p: 01\nq: 1 1 ~ 4 refused history length 1\n",
-        "p: 0 2\nq: 1 1 ~ 4 refused history value 1 2\n",
-        "p: 0 -1\nq: 1 1 ~ 4 refused history value 1 2\n",
-        "p: 0 x\nq: 1 1 ~ 4 refused history value 1 2\n",
-        "p: 0 ?\nq: 1 1 ~ 4 unknown p 1\n",
-        "p: 0 1\nq: ? ? ~ 4 unknown q 0\n",
-        "r: 0 1\np: 0 1\nq: 1 1 ~ 4 refused history unknownrow 1\n",
-        "A: 0 1\np: 0 1\nq: 1 1 ~ 4 refused history unknownrow 1\n",
-        "p 0 1\nq: 1 1 ~ 4 refused history syntax 1\n",
-        "p: 0 1 q: 1 1 ~ 4 refused history syntax 1\n",
-        "p(): 0 1\nq: 1 1 ~ 4 refused history syntax 1\n",
-        "p: 0\n1\nq: 1 1 ~ 4 refused history length 1\n",
-        "p: 0 -\n1\nq: 1 1 ~ 4 refused history syntax 1\n",
-        "p: 0 1\nq: 1 1\n/ ~ 4 refused history lex 14\n",
-    ];
-    for row in rows {
-        let row = format!(in rt.alloc();
-            "time 2; item p : bool; input q : bool; axiom A : p -> q; ~ {row}"
-        )?;
-        check_row(&rt, row.as_str())?;
-    }
-    let answer = checked(rt.alloc(), b"time 1;", b"\n\xff")?;
-    assert_eq!(rt; answer.as_slice(), b"4 refused history lex 1\n".as_slice());
-    Ok(())
+    let before = "time 2; item p : bool; input q : bool; axiom A : p -> q; ~ ";
+    check_behind(&rt, before, &HISTORIES)
 }
 
 #[test]
+fn a_byte_of_no_text(rt: HostRuntime) -> Result<(), Fail> {
+    let answer = checked(rt.alloc(), b"time 1;", b"\n\xff")?;
+    is_due(&rt, answer.as_slice(), "4 refused history lex 1\n", "");
+    Ok(())
+}
+
+/// The number with which the program ends.
+const NUMBERS: [(Status, u8); 7] = [
+    (Status::Done, 0),
+    (Status::False, 1),
+    (Status::Usage, 2),
+    (Status::Refused, 4),
+    (Status::ReadFault, 5),
+    (Status::WriteFault, 6),
+    (Status::Memory, 7),
+];
+
+#[test]
 fn statuses_have_their_numbers(rt: HostRuntime) {
-    assert_eq!(rt; Status::Done.number(), 0);
-    assert_eq!(rt; Status::False.number(), 1);
-    assert_eq!(rt; Status::Usage.number(), 2);
-    assert_eq!(rt; Status::Refused.number(), 4);
-    assert_eq!(rt; Status::ReadFault.number(), 5);
-    assert_eq!(rt; Status::WriteFault.number(), 6);
-    assert_eq!(rt; Status::Memory.number(), 7);
+    for (status, number) in &NUMBERS {
+        assert_eq!(rt; status.number(), *number);
+    }
 }
 
 /// Asserts what is said of a fault.
@@ -370,7 +451,7 @@ fn says(rt: &(impl Abort + AllocGlobal), fault: Fault, want: &str) -> Result<(),
     let alloc = rt.alloc();
     let mut out = ample(alloc)?;
     let status = say(&mut out, &fault);
-    assert_eq!(rt; shown(alloc, status, &out)?.as_slice(), want.as_bytes());
+    is_due(rt, shown(alloc, status, &out)?.as_slice(), want, want);
     Ok(())
 }
 
@@ -397,23 +478,32 @@ fn spec_says(rt: &(impl Abort + AllocGlobal), fault: SpecFault, words: &str) -> 
     says(rt, Fault::Spec(fault), want.as_str())
 }
 
+/// A fault of a specification, and the words behind `refused spec`.
+const SPEC_MESSAGES: [(SpecFault, &str); 13] = [
+    (SpecFault::Lex(0), "lex 0"),
+    (SpecFault::Deep(106), "deep 106"),
+    (SpecFault::Syntax(5), "syntax 5"),
+    (SpecFault::Unknown(11), "unknown 11"),
+    (SpecFault::Twice(9), "twice 9"),
+    (SpecFault::Kind(12), "kind 12"),
+    (SpecFault::Range(8), "range 8"),
+    (SpecFault::Limit(Which::Items, 257), "limit items 257"),
+    (SpecFault::Limit(Which::Cells, 9), "limit cells 9"),
+    (SpecFault::Limit(Which::Sizes, 9), "limit sizes 9"),
+    (SpecFault::Limit(Which::Bound, 9), "limit bound 9"),
+    (
+        SpecFault::Limit(Which::Instances, u64::MAX),
+        "limit instances 18446744073709551615",
+    ),
+    (SpecFault::Limit(Which::Nest, 101), "limit nest 101"),
+];
+
 #[test]
 fn refused_specifications_have_their_messages(rt: HostRuntime) -> Result<(), Fail> {
-    spec_says(&rt, SpecFault::Lex(0), "lex 0")?;
-    spec_says(&rt, SpecFault::Deep(106), "deep 106")?;
-    spec_says(&rt, SpecFault::Syntax(5), "syntax 5")?;
-    spec_says(&rt, SpecFault::Unknown(11), "unknown 11")?;
-    spec_says(&rt, SpecFault::Twice(9), "twice 9")?;
-    spec_says(&rt, SpecFault::Kind(12), "kind 12")?;
-    spec_says(&rt, SpecFault::Range(8), "range 8")?;
-    spec_says(&rt, SpecFault::Limit(Which::Items, 257), "limit items 257")?;
-    spec_says(&rt, SpecFault::Limit(Which::Cells, 9), "limit cells 9")?;
-    spec_says(&rt, SpecFault::Limit(Which::Sizes, 9), "limit sizes 9")?;
-    spec_says(&rt, SpecFault::Limit(Which::Bound, 9), "limit bound 9")?;
-    let most = u64::MAX;
-    let words = "limit instances 18446744073709551615";
-    spec_says(&rt, SpecFault::Limit(Which::Instances, most), words)?;
-    spec_says(&rt, SpecFault::Limit(Which::Nest, 101), "limit nest 101")
+    for (fault, words) in &SPEC_MESSAGES {
+        spec_says(&rt, *fault, words)?;
+    }
+    Ok(())
 }
 
 /// Asserts the words on a refused history.
@@ -426,14 +516,22 @@ fn history_says(
     says(rt, Fault::History(fault), want.as_str())
 }
 
+/// A fault of a history, and the words behind `refused history`.
+const HISTORY_MESSAGES: [(HistFault, &str); 6] = [
+    (HistFault::Lex(14), "lex 14"),
+    (HistFault::Syntax(1), "syntax 1"),
+    (HistFault::UnknownRow(2), "unknownrow 2"),
+    (HistFault::TwiceRow(3), "twicerow 3"),
+    (HistFault::Length(4), "length 4"),
+    (HistFault::Value(1, 2), "value 1 2"),
+];
+
 #[test]
 fn refused_histories_have_their_messages(rt: HostRuntime) -> Result<(), Fail> {
-    history_says(&rt, HistFault::Lex(14), "lex 14")?;
-    history_says(&rt, HistFault::Syntax(1), "syntax 1")?;
-    history_says(&rt, HistFault::UnknownRow(2), "unknownrow 2")?;
-    history_says(&rt, HistFault::TwiceRow(3), "twicerow 3")?;
-    history_says(&rt, HistFault::Length(4), "length 4")?;
-    history_says(&rt, HistFault::Value(1, 2), "value 1 2")
+    for (fault, words) in &HISTORY_MESSAGES {
+        history_says(&rt, *fault, words)?;
+    }
+    Ok(())
 }
 
 /// Over a shelf that never fails and a sink in memory: the answer due, or want of memory, and every file as it was.
@@ -448,22 +546,21 @@ fn sure_status(alloc: Global, words: &[String], shelf: &mut SureShelf, out: &mut
     trio_plain(alloc, words, shelf, out, &mut bell)
 }
 
+/// Asserts the answer in the last column for the history in the first.
+fn sure_row(rt: &(impl Abort + AllocGlobal), row: &str) -> Result<(), Fail> {
+    let alloc = rt.alloc();
+    let (history, want) = cut(row);
+    let files = two_files(alloc, IMPLIES_NEXT.as_bytes(), history.as_bytes())?;
+    let mut shelf = SureShelf::new(alloc, files)?;
+    let mut out = ample(alloc)?;
+    let words = words_in(alloc, "check s h")?;
+    let status = sure_status(alloc, words.as_slice(), &mut shelf, &mut out);
+    is_due(rt, shown(alloc, status, &out)?.as_slice(), want, row);
+    Ok(())
+}
+
 #[test]
 fn what_is_due_is_given(rt: HostRuntime) -> Result<(), Fail> {
-    let alloc = rt.alloc();
-    let rows = ["p: 0 0 0 ~ 0 true\n", "p: 0 1 1 ~ 1 false A 2\n"];
-    for row in rows {
-        let (history, want) = cut(row);
-        let files = two_files(alloc, IMPLIES_NEXT.as_bytes(), history.as_bytes())?;
-        let mut shelf = SureShelf::new(alloc, files)?;
-        let mut out = ample(alloc)?;
-        let words = words_in(alloc, "check s h")?;
-        let status = sure_status(alloc, words.as_slice(), &mut shelf, &mut out);
-        assert_eq!(rt;
-            shown(alloc, status, &out)?.as_slice(),
-            want.as_bytes(),
-            "{row}"
-        );
-    }
-    Ok(())
+    sure_row(&rt, "p: 0 0 0 ~ 0 true\n")?;
+    sure_row(&rt, "p: 0 1 1 ~ 1 false A 2\n")
 }

@@ -21,26 +21,33 @@ fn complete_row(rt: &(impl Abort + AllocGlobal), row: &str) -> Result<(), Fail> 
     let (spec, rest) = cut(row);
     let (history, want) = cut(rest);
     let answer = completed_into(alloc, spec, history, ample(alloc)?)?;
-    assert_eq!(rt; answer.as_slice(), want.as_bytes(), "{row}");
+    is_due(rt, answer.as_slice(), want, row);
     Ok(())
 }
 
-#[test]
-fn lists_of_completions(rt: HostRuntime) -> Result<(), Fail> {
-    let rows = [
-        "time 3; item p : bool; axiom A : p -> Futr(p, 1); ~ p: ? ? ?\n ~ 0 histories 1\nhistory 1\np: 0 0 0\n",
-        "time 3; item p : bool; axiom A : Dist(true, 1) & p -> Futr(p, 1); ~ p: ? ? ?\n ~ 0 histories 4\nhistory 1\np: 0 0 0\nhistory 2\np: 0 0 1\nhistory 3\np: 0 1 1\nhistory 4\np: 1 1 1\n",
-        "time 1; item p : bool; axiom A : p & !p; ~ p: ? ~ 0 histories 0\n",
-        "time 3; item p : bool; axiom A : Dist(true, 1) & p -> Futr(p, 1); ~ p: 0 1 1 ~ 0 histories 1\nhistory 1\np: 0 1 1\n",
-        "time 3; item p : bool; axiom A : Dist(true, 1) & p -> Futr(p, 1); ~ p: 1 0 0 ~ 0 histories 0\n",
-        "time 1; axiom A : true; ~  ~ 0 histories 1\nhistory 1\n",
-        "time 1; axiom A : false; ~  ~ 0 histories 0\n",
-        "time 1; domain c = {red, blue}; domain k = -1..0; item q(c) : k; axiom A : q(red) < q(blue); ~ q(blue): ?\nq(red): ? ~ 0 histories 1\nhistory 1\nq(red): -1\nq(blue): 0\n",
-    ];
+/// Asserts each row.
+fn complete_all(rt: &(impl Abort + AllocGlobal), rows: &[&str]) -> Result<(), Fail> {
     for row in rows {
-        complete_row(&rt, row)?;
+        complete_row(rt, row)?;
     }
     Ok(())
+}
+
+/// A specification, a history, and the list that `complete` answers.
+const LISTS: [&str; 8] = [
+    "time 3; item p : bool; axiom A : p -> Futr(p, 1); ~ p: ? ? ?\n ~ 0 histories 1\nhistory 1\np: 0 0 0\n",
+    "time 3; item p : bool; axiom A : Dist(true, 1) & p -> Futr(p, 1); ~ p: ? ? ?\n ~ 0 histories 4\nhistory 1\np: 0 0 0\nhistory 2\np: 0 0 1\nhistory 3\np: 0 1 1\nhistory 4\np: 1 1 1\n",
+    "time 1; item p : bool; axiom A : p & !p; ~ p: ? ~ 0 histories 0\n",
+    "time 3; item p : bool; axiom A : Dist(true, 1) & p -> Futr(p, 1); ~ p: 0 1 1 ~ 0 histories 1\nhistory 1\np: 0 1 1\n",
+    "time 3; item p : bool; axiom A : Dist(true, 1) & p -> Futr(p, 1); ~ p: 1 0 0 ~ 0 histories 0\n",
+    "time 1; axiom A : true; ~  ~ 0 histories 1\nhistory 1\n",
+    "time 1; axiom A : false; ~  ~ 0 histories 0\n",
+    "time 1; domain c = {red, blue}; domain k = -1..0; item q(c) : k; axiom A : q(red) < q(blue); ~ q(blue): ?\nq(red): ? ~ 0 histories 1\nhistory 1\nq(red): -1\nq(blue): 0\n",
+];
+
+#[test]
+fn lists_of_completions(rt: HostRuntime) -> Result<(), Fail> {
+    complete_all(&rt, &LISTS)
 }
 
 /// The text of the 40 histories in which `Until(p, q)` is true at 0: q at 1, or p at 1 and q at 2.
@@ -64,94 +71,67 @@ fn completions_of_until(rt: HostRuntime) -> Result<(), Fail> {
     let alloc = rt.alloc();
     let spec = "time 3; item p : bool; item q : bool; axiom A at 0 : Until(p, q);";
     let answer = completed_into(alloc, spec, "p: ? ? ?\nq: ? ? ?", ample(alloc)?)?;
-    assert_eq!(rt; answer.as_slice(), until_text(alloc)?.as_bytes());
+    is_due(&rt, answer.as_slice(), until_text(alloc)?.as_str(), spec);
     Ok(())
 }
+
+/// What is not known of sent(a) at 3, and of sent(b) at 2 and at 3, takes six of its eight values, and `got` follows.
+const TRANSMISSION: &str =
+    "time 10; domain msg = {a, b}; input sent(msg) : bool; item got(msg) : bool; axiom Pass : all m : msg (Dist(true, 5) -> (sent(m) <-> Dist(got(m), 5))); axiom Start : all m : msg (!Dist(true, -5) -> !got(m)); axiom One : !(sent(a) & sent(b)); ~ sent(a): 1 0 0 ? 0 0 0 0 0 0\nsent(b): 0 0 ? ? 0 0 0 0 0 0\ngot(a): ? ? ? ? ? ? ? ? ? ?\ngot(b): ? ? ? ? ? ? ? ? ? ?\n ~ 0 histories 6\nhistory 1\nsent(a): 1 0 0 0 0 0 0 0 0 0\nsent(b): 0 0 0 0 0 0 0 0 0 0\ngot(a): 0 0 0 0 0 1 0 0 0 0\ngot(b): 0 0 0 0 0 0 0 0 0 0\nhistory 2\nsent(a): 1 0 0 0 0 0 0 0 0 0\nsent(b): 0 0 0 1 0 0 0 0 0 0\ngot(a): 0 0 0 0 0 1 0 0 0 0\ngot(b): 0 0 0 0 0 0 0 0 1 0\nhistory 3\nsent(a): 1 0 0 0 0 0 0 0 0 0\nsent(b): 0 0 1 0 0 0 0 0 0 0\ngot(a): 0 0 0 0 0 1 0 0 0 0\ngot(b): 0 0 0 0 0 0 0 1 0 0\nhistory 4\nsent(a): 1 0 0 0 0 0 0 0 0 0\nsent(b): 0 0 1 1 0 0 0 0 0 0\ngot(a): 0 0 0 0 0 1 0 0 0 0\ngot(b): 0 0 0 0 0 0 0 1 1 0\nhistory 5\nsent(a): 1 0 0 1 0 0 0 0 0 0\nsent(b): 0 0 0 0 0 0 0 0 0 0\ngot(a): 0 0 0 0 0 1 0 0 1 0\ngot(b): 0 0 0 0 0 0 0 0 0 0\nhistory 6\nsent(a): 1 0 0 1 0 0 0 0 0 0\nsent(b): 0 0 1 0 0 0 0 0 0 0\ngot(a): 0 0 0 0 0 1 0 0 1 0\ngot(b): 0 0 0 0 0 0 0 1 0 0\n";
 
 #[test]
 fn completions_of_the_transmission_line(rt: HostRuntime) -> Result<(), Fail> {
-    let alloc = rt.alloc();
-    let spec =
-        "time 10; domain msg = {a, b}; input sent(msg) : bool; item got(msg) : bool; axiom Pass : all m : msg (Dist(true, 5) -> (sent(m) <-> Dist(got(m), 5))); axiom Start : all m : msg (!Dist(true, -5) -> !got(m)); axiom One : !(sent(a) & sent(b));";
-    let history =
-        "sent(a): 1 0 0 ? 0 0 0 0 0 0\nsent(b): 0 0 ? ? 0 0 0 0 0 0\ngot(a): ? ? ? ? ? ? ? ? ? ?\ngot(b): ? ? ? ? ? ? ? ? ? ?\n";
-    let mut want = String::from_str(alloc, "0 histories 6\n")?;
-    // What is not known of sent(a) at 3, and of sent(b) at 2 and at 3.
-    let known = ["000", "001", "010", "011", "100", "110"];
-    for (place, digits) in known.iter().enumerate() {
-        let number = place + 1;
-        let (a3, rest) = digits.split_at(1);
-        let (b2, b3) = rest.split_at(1);
-        let sent = format!(in alloc;
-            "sent(a): 1 0 0 {a3} 0 0 0 0 0 0\nsent(b): 0 0 {b2} {b3} 0 0 0 0 0 0\n"
-        )?;
-        let got = format!(in alloc;
-            "got(a): 0 0 0 0 0 1 0 0 {a3} 0\ngot(b): 0 0 0 0 0 0 0 {b2} {b3} 0\n"
-        )?;
-        let text = format!(in alloc; "history {number}\n{sent}{got}")?;
-        want.push_str(text.as_str())?;
-    }
-    let answer = completed_into(alloc, spec, history, ample(alloc)?)?;
-    assert_eq!(rt; answer.as_slice(), want.as_bytes());
-    Ok(())
+    complete_row(&rt, TRANSMISSION)
 }
 
 /// 64 cells have far more tables than can be gone over one by one.
+const MANY_CELLS: &str =
+    "time 64; item p : bool; axiom A : p; ~ p: ? ? ? ? ? ? ? ? ? ? ? ? ? ? ? ? ? ? ? ? ? ? ? ? ? ? ? ? ? ? ? ? ? ? ? ? ? ? ? ? ? ? ? ? ? ? ? ? ? ? ? ? ? ? ? ? ? ? ? ? ? ? ? ? ~ 0 histories 1\nhistory 1\np: 1 1 1 1 1 1 1 1 1 1 1 1 1 1 1 1 1 1 1 1 1 1 1 1 1 1 1 1 1 1 1 1 1 1 1 1 1 1 1 1 1 1 1 1 1 1 1 1 1 1 1 1 1 1 1 1 1 1 1 1 1 1 1 1\n";
+
 #[test]
 fn one_completion_of_many_cells(rt: HostRuntime) -> Result<(), Fail> {
-    let alloc = rt.alloc();
-    let mut history = String::from_str(alloc, "p:")?;
-    let mut want = String::from_str(alloc, "0 histories 1\nhistory 1\np:")?;
-    for _ in 0..64 {
-        history.push_str(" ?")?;
-        want.push_str(" 1")?;
-    }
-    want.push_str("\n")?;
-    let spec = "time 64; item p : bool; axiom A : p;";
-    let answer = completed_into(alloc, spec, history.as_str(), ample(alloc)?)?;
-    assert_eq!(rt; answer.as_slice(), want.as_bytes());
-    Ok(())
+    complete_row(&rt, MANY_CELLS)
 }
 
-/// The first line is one write, and each history is one.
+/// The number of the write that fails, and the answer: the first line is one write, and each history is one.
+const CUT_LISTS: [(u64, &str); 5] = [
+    (1, "6 "),
+    (2, "6 histories 4\n"),
+    (3, "6 histories 4\nhistory 1\np: 0 0 0\n"),
+    (
+        5,
+        "6 histories 4\nhistory 1\np: 0 0 0\nhistory 2\np: 0 0 1\nhistory 3\np: 0 1 1\n",
+    ),
+    (
+        6,
+        "0 histories 4\nhistory 1\np: 0 0 0\nhistory 2\np: 0 0 1\nhistory 3\np: 0 1 1\nhistory 4\np: 1 1 1\n",
+    ),
+];
+
 #[test]
 fn lists_are_cut_between_pieces(rt: HostRuntime) -> Result<(), Fail> {
     let alloc = rt.alloc();
-    let rows = [
-        (1, "6 "),
-        (2, "6 histories 4\n"),
-        (3, "6 histories 4\nhistory 1\np: 0 0 0\n"),
-        (
-            5,
-            "6 histories 4\nhistory 1\np: 0 0 0\nhistory 2\np: 0 0 1\nhistory 3\np: 0 1 1\n",
-        ),
-        (
-            6,
-            "0 histories 4\nhistory 1\np: 0 0 0\nhistory 2\np: 0 0 1\nhistory 3\np: 0 1 1\nhistory 4\np: 1 1 1\n",
-        ),
-    ];
-    for (failing, want) in rows {
-        let failing = Counts::from_slice(alloc, &[failing])?;
+    for (failing, want) in &CUT_LISTS {
+        let failing = Counts::from_slice(alloc, &[*failing])?;
         let out = MemSink::new(alloc, 4096, 4096, failing)?;
         let answer = completed_into(alloc, TRUE_AHEAD, "p: ? ? ?\n", out)?;
-        assert_eq!(rt; answer.as_slice(), want.as_bytes());
+        is_due(&rt, answer.as_slice(), want, want);
     }
     Ok(())
 }
 
+/// A specification, a history, and the refusal of one of them.
+const REFUSED: [&str; 5] = [
+    "time 3; item p bool; ~ p: ? ? ? ~ 4 refused spec syntax 5\n",
+    "time 3; item p : bool; axiom A : q; ~ p: 0 ? ~ 4 refused spec unknown 11\n",
+    "time 3; item p : bool; ~ p: 0 ? ~ 4 refused history length 1\n",
+    "time 3; item p : bool; ~ p: 0 ? 2 ~ 4 refused history value 1 3\n",
+    "time 3; item p : bool; ~  ~ 4 refused history missing p\n",
+];
+
 #[test]
 fn texts_that_complete_refuses(rt: HostRuntime) -> Result<(), Fail> {
-    let rows = [
-        "time 3; item p bool; ~ p: ? ? ? ~ 4 refused spec syntax 5\n",
-        "time 3; item p : bool; axiom A : q; ~ p: 0 ? ~ 4 refused spec unknown 11\n",
-        "time 3; item p : bool; ~ p: 0 ? ~ 4 refused history length 1\n",
-        "time 3; item p : bool; ~ p: 0 ? 2 ~ 4 refused history value 1 3\n",
-        "time 3; item p : bool; ~  ~ 4 refused history missing p\n",
-    ];
-    for row in rows {
-        complete_row(&rt, row)?;
-    }
-    Ok(())
+    complete_all(&rt, &REFUSED)
 }
 
 /// For runs in which one allocation fails: the answer is the list or want of memory.

@@ -1,5 +1,5 @@
 //! Worked rows on operators, terms and quantifiers.
-use super::{check_row, cut};
+use super::{check_all, checked, cut, is_due};
 use std::process::Abort;
 use std::test::Fail;
 
@@ -162,55 +162,54 @@ fn holds_at(
     want: &str,
 ) -> Result<(), Fail> {
     let alloc = rt.alloc();
-    let row = if want == "true" {
-        format!(in alloc;
-            "{declarations} axiom A at {instant} : {formula}; ~ {history} ~ 0 true\n"
-        )?
-    } else {
-        format!(in alloc;
-            "{declarations} axiom A at {instant} : {formula}; ~ {history} ~ 1 false A {instant}\n"
-        )?
+    let spec = format!(in alloc; "{declarations} axiom A at {instant} : {formula};")?;
+    let want = match want {
+        "true" => String::from_str(alloc, "0 true\n")?,
+        _ => format!(in alloc; "1 false A {instant}\n")?,
     };
-    check_row(rt, row.as_str())
+    let answer = checked(alloc, spec.as_bytes(), history.as_bytes())?;
+    is_due(rt, answer.as_slice(), want.as_str(), spec.as_str());
+    Ok(())
+}
+
+/// Asserts a row over `p`.
+fn row_over_p(rt: &(impl Abort + AllocGlobal), row: &str) -> Result<(), Fail> {
+    let (instant, rest) = cut(row);
+    let (formula, rest) = cut(rest);
+    let (values, want) = cut(rest);
+    let history = format!(in rt.alloc(); "p: {values}\n")?;
+    let declarations = "time 4; item p : bool;";
+    holds_at(rt, declarations, history.as_str(), instant, formula, want)
 }
 
 #[test]
 fn operators_over_one_item(rt: HostRuntime) -> Result<(), Fail> {
-    for row in OVER_P {
-        let (instant, rest) = cut(row);
-        let (formula, rest) = cut(rest);
-        let (values, want) = cut(rest);
-        let history = format!(in rt.alloc(); "p: {values}\n")?;
-        holds_at(
-            &rt,
-            "time 4; item p : bool;",
-            history.as_str(),
-            instant,
-            formula,
-            want,
-        )?;
+    for row in &OVER_P {
+        row_over_p(&rt, row)?;
     }
     Ok(())
 }
 
+/// Asserts a row over `p` and `q`.
+fn row_over_p_and_q(rt: &(impl Abort + AllocGlobal), row: &str) -> Result<(), Fail> {
+    let (instant, rest) = cut(row);
+    let (formula, rest) = cut(rest);
+    let (first, rest) = cut(rest);
+    let (second, want) = cut(rest);
+    let history = format!(in rt.alloc(); "p: {first}\nq: {second}\n")?;
+    let declarations = "time 5; item p : bool; item q : bool;";
+    holds_at(rt, declarations, history.as_str(), instant, formula, want)
+}
+
 #[test]
 fn operators_over_two_items(rt: HostRuntime) -> Result<(), Fail> {
-    for row in OVER_P_AND_Q {
-        let (instant, rest) = cut(row);
-        let (formula, rest) = cut(rest);
-        let (first, rest) = cut(rest);
-        let (second, want) = cut(rest);
-        let history = format!(in rt.alloc(); "p: {first}\nq: {second}\n")?;
-        let declarations = "time 5; item p : bool; item q : bool;";
-        holds_at(&rt, declarations, history.as_str(), instant, formula, want)?;
+    for row in &OVER_P_AND_Q {
+        row_over_p_and_q(&rt, row)?;
     }
     Ok(())
 }
 
 #[test]
 fn quantifiers_terms_and_first_false_instants(rt: HostRuntime) -> Result<(), Fail> {
-    for row in WHOLE {
-        check_row(&rt, row)?;
-    }
-    Ok(())
+    check_all(&rt, &WHOLE)
 }

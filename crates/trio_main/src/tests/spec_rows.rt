@@ -1,20 +1,12 @@
 //! Worked rows on specification texts. A row of specifications has the text, an empty history, and the answer of `check`; a row of formulas has
 //! the formula of the one axiom in place of the text.
-use super::{check_row, cut};
+use super::{check_all, check_row, cut};
 use std::process::Abort;
 use std::test::Fail;
 
 /// What stands before the formula of the one axiom.
 const PREFIX: &str =
     "time 3; domain n = -1..2; domain c = {red, blue}; item p : bool; item q(n) : bool; item x : n; item w : c; item a(c, n) : n; axiom A : ";
-
-/// Asserts each row.
-fn check_specs(rt: &(impl Abort + AllocGlobal), rows: &[&str]) -> Result<(), Fail> {
-    for row in rows {
-        check_row(rt, row)?;
-    }
-    Ok(())
-}
 
 /// Asserts each row of formulas.
 fn check_formulas(rt: &(impl Abort + AllocGlobal), rows: &[&str]) -> Result<(), Fail> {
@@ -47,7 +39,7 @@ const NAMES_USED_BEFORE_THEY_ARE_DECLARED: [&str; 16] = [
 
 #[test]
 fn names_used_before_they_are_declared(rt: HostRuntime) -> Result<(), Fail> {
-    check_specs(&rt, &NAMES_USED_BEFORE_THEY_ARE_DECLARED)
+    check_all(&rt, &NAMES_USED_BEFORE_THEY_ARE_DECLARED)
 }
 
 const NAMES_USED_BEFORE_THEY_ARE_DECLARED_OF_FORMULAS: [&str; 3] = [
@@ -85,7 +77,7 @@ const NAMES_DECLARED_TWICE: [&str; 19] = [
 
 #[test]
 fn names_declared_twice(rt: HostRuntime) -> Result<(), Fail> {
-    check_specs(&rt, &NAMES_DECLARED_TWICE)
+    check_all(&rt, &NAMES_DECLARED_TWICE)
 }
 
 const KINDS: [&str; 6] = [
@@ -99,7 +91,7 @@ const KINDS: [&str; 6] = [
 
 #[test]
 fn kinds(rt: HostRuntime) -> Result<(), Fail> {
-    check_specs(&rt, &KINDS)
+    check_all(&rt, &KINDS)
 }
 
 const KINDS_OF_FORMULAS: [&str; 85] = [
@@ -237,7 +229,7 @@ const RANGES: [&str; 37] = [
 
 #[test]
 fn ranges(rt: HostRuntime) -> Result<(), Fail> {
-    check_specs(&rt, &RANGES)
+    check_all(&rt, &RANGES)
 }
 
 const LIMITS: [&str; 20] = [
@@ -265,7 +257,7 @@ const LIMITS: [&str; 20] = [
 
 #[test]
 fn limits(rt: HostRuntime) -> Result<(), Fail> {
-    check_specs(&rt, &LIMITS)
+    check_all(&rt, &LIMITS)
 }
 
 const PHASES_IN_THEIR_ORDER: [&str; 11] = [
@@ -284,7 +276,7 @@ const PHASES_IN_THEIR_ORDER: [&str; 11] = [
 
 #[test]
 fn phases_in_their_order(rt: HostRuntime) -> Result<(), Fail> {
-    check_specs(&rt, &PHASES_IN_THEIR_ORDER)
+    check_all(&rt, &PHASES_IN_THEIR_ORDER)
 }
 
 const OPERATORS: [&str; 40] = [
@@ -332,7 +324,7 @@ const OPERATORS: [&str; 40] = [
 
 #[test]
 fn operators(rt: HostRuntime) -> Result<(), Fail> {
-    check_specs(&rt, &OPERATORS)
+    check_all(&rt, &OPERATORS)
 }
 
 const THE_GRAMMAR: [&str; 63] = [
@@ -403,7 +395,7 @@ const THE_GRAMMAR: [&str; 63] = [
 
 #[test]
 fn the_grammar(rt: HostRuntime) -> Result<(), Fail> {
-    check_specs(&rt, &THE_GRAMMAR)
+    check_all(&rt, &THE_GRAMMAR)
 }
 
 const THE_GRAMMAR_OF_FORMULAS: [&str; 2] = [

@@ -1,5 +1,5 @@
 -- The number's line, and the table.
-use Rattle.std.proofs.Common.{◌++◌, ap, ap₂, ◌∙◌, codes, decimal}
+use Rattle.std.proofs.Common.{◌++◌, ap₂, ◌∙◌, codes, decimal}
 use Rattle.trio_types.specs.Verdict.{world_of}
 use Rattle.history_table.specs.Texts.{table_text}
 use Rattle.trio_main.proofs.ListPieces.{behind_line}
