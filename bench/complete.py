@@ -3,11 +3,11 @@
 
     bench/complete.py [--runs N] [NAME ..]
 
-NAME is one of the inputs below; all of them where none is given. Needs clingo (Debian's package `gringo`). Each input is made here. The
-numbered ones are rows of bools that, once true, stay true, each implied by the row before it. `line` is a line with three messages that passes
-each on after two instants, with quantifiers and distances; `trace` is a recorded history at the limit of 1,024 cells with two dozen unknown
-ones; `free15` and `free16` list all values of as many bools, so that the second has twice the histories of the first. A line of the result has:
-histories, seconds of both (the least of the runs), their ratio, peak memory of both, histories a second.
+NAME is one of the inputs below; all of them where none is given. Needs clingo and GNU time (Debian's packages `gringo` and `time`). Each
+input is made here. The numbered ones are rows of bools that, once true, stay true, each implied by the row before it. `line` is a line with
+three messages that passes each on after two instants, with quantifiers and distances; `trace` is a recorded history at the limit of 1,024
+cells with two dozen unknown ones; `free15` and `free16` list all values of as many bools, so that the second has twice the histories of the
+first. A line of the result has: histories, seconds of both (the least of the runs), their ratio, peak memory of both, histories a second.
 """
 import argparse
 import os
@@ -125,12 +125,11 @@ INPUTS["free16"] = lambda: free(16)
 
 
 def timed(command, out):
-    """Seconds and peak memory in MB of a command whose output goes to a file."""
-    with open(out, "wb") as sink:
+    """Seconds and peak memory in MB of a command whose output goes to a file. GNU time measures the memory: this script's own would count."""
+    with open(out, "wb") as sink, tempfile.NamedTemporaryFile("r") as peak:
         start = time.perf_counter()
-        child = subprocess.Popen(command, stdout=sink)
-        _, _, usage = os.wait4(child.pid, 0)
-        return time.perf_counter() - start, usage.ru_maxrss / 1024
+        subprocess.run(["/usr/bin/time", "--quiet", "-f", "%M", "-o", peak.name, *command], stdout=sink, check=False)
+        return time.perf_counter() - start, int(peak.read()) / 1024
 
 
 def measured(name, runs, folder):
@@ -150,7 +149,7 @@ def measured(name, runs, folder):
     seconds, memory = min(ours)
     other, other_memory = min(theirs)
     print(
-        f"{name:>6} {listed:>8} histories  trio {seconds:7.3f} s {memory:6.0f} MB  clingo {other:7.3f} s {other_memory:6.0f} MB"
+        f"{name:>6} {listed:>8} histories  trio {seconds:7.3f} s {memory:6.1f} MB  clingo {other:7.3f} s {other_memory:6.1f} MB"
         f"  ratio {seconds / other:6.2f}  {listed / seconds:10.0f} histories/s"
     )
 
