@@ -57,22 +57,23 @@ pub fn made_open_given(
     ensures { IfOk result (λ given. length given ≡ length (cells_of (world_of spec.now))) }
 {
     let mut given = Given::new(alloc);
-    let mut tables = 1_u32;
+    let mut left = most;
     for cell in 0..cell_count(spec) {
-        let size = cell_size(spec, cell);
-        let more = tables.saturating_mul(size);
-        let known = more > most || maker.number(chance) != 0;
-        if !known {
-            tables = more;
-        }
-        let entry = if known {
-            made_entry(maker, size, true)
-        } else {
-            None
-        };
+        let entry = open_entry(maker, cell_size(spec, cell), &mut left, chance);
         add_entry(&mut given, entry)?;
     }
     Ok(given)
+}
+
+/// An index below a size; none in one case of so many, where so many times fewer tables may be left as there are indexes.
+fn open_entry(maker: &mut Maker, size: u32, left: &mut u32, chance: usize) -> Option<u16>
+    requires { 0 < chance }
+{
+    if size == 0 || *left < size || maker.number(chance) != 0 {
+        return made_entry(maker, size, true);
+    }
+    *left /= size;
+    None
 }
 
 /// A table of this many cells, each with the index 0.

@@ -80,9 +80,8 @@ fn part_count(counts: &[u64], part: u32) -> u64 {
 
 /// How many values there are from the first to the last, without so many.
 fn values_left(first: i64, last: i64, passed: u32) -> u64 {
-    let mut count = 0_u64;
-    for _value in first..=last {
-        count = count.saturating_add(1);
+    match u64::try_from(last.saturating_sub(first)) {
+        Ok(more) => one_more(more).saturating_sub(u64::from(passed)),
+        Err(_) => 0,
     }
-    count.saturating_sub(u64::from(passed))
 }
