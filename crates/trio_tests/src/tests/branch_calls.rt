@@ -1,12 +1,14 @@
 //! Each call on problems and branches once, with ample memory.
 ghost use Rattle.std.specs.Prelude.{IfOk};
+ghost use Rattle.branch_state.specs.Branches.{Fits};
 
 use super::branches::{branch_text, fitting_root, problem_of, stepped};
 use super::tables::read_table;
 use super::weights::weight;
 use branch_state::{Branch, Env, Problem, copy, holds, of_table, same, same_problem};
-use decompose::Stepped;
+use decompose::{Fork, Stepped};
 use derived_ops::with_goal;
+use std::alloc::{AllocError, Global};
 use std::process::Abort;
 use std::test::Fail;
 use trio_reader::{read_spec, spec_text};
@@ -15,17 +17,34 @@ const LASTING: &str = "time 3; item p : bool; axiom A : Dist(true, 1) & p -> Fut
 
 const OPEN: &str = "p: ? ? ?";
 
-fn lasting(rt: &(impl Abort + AllocGlobal), given: &str) -> Result<Problem, Fail> {
-    problem_of(rt.alloc(), LASTING.as_bytes(), given.as_bytes())
+fn lasting(alloc: Global, given: &str) -> Result<Problem, Fail> {
+    problem_of(alloc, LASTING.as_bytes(), given.as_bytes())
 }
 
 #[test]
 fn the_root_of_a_problem(rt: HostRuntime) -> Result<(), Fail> {
-    let problem = lasting(&rt, OPEN)?;
+    let problem = lasting(rt.alloc(), OPEN)?;
     let root = fitting_root(rt.alloc(), &problem)?;
     let text = branch_text(rt.alloc(), &root)?;
     assert_eq!(rt; text.as_str(), "3 3 3; 9 0 t 0; 9 1 t 0; 9 2 t 0");
     assert_eq!(rt; weight(rt.alloc(), &problem, &root)?, 33);
+    Ok(())
+}
+
+/// Whether the root of a problem holds in a table.
+fn root_holds(
+    rt: &(impl Abort + AllocGlobal),
+    problem: &Problem,
+    table: &str,
+) -> Result<bool, Fail> {
+    let root = fitting_root(rt.alloc(), problem)?;
+    let table = read_table(rt, &problem.spec, table)?;
+    Ok(holds(problem, &root, &table))
+}
+
+#[test]
+fn the_root_in_tables(rt: HostRuntime) -> Result<(), Fail> {
+    let problem = lasting(rt.alloc(), OPEN)?;
     for (table, want) in [
         ("p: 0 0 1", true),
         ("p: 1 0 0", false),
@@ -33,15 +52,14 @@ fn the_root_of_a_problem(rt: HostRuntime) -> Result<(), Fail> {
         ("p: 0 1 0", false),
         ("p: 1 1 1", true),
     ] {
-        let table = read_table(&rt, &problem.spec, table)?;
-        assert_eq!(rt; holds(&problem, &root, &table), want);
+        assert_eq!(rt; root_holds(&rt, &problem, table)?, want, "{table}");
     }
     Ok(())
 }
 
 #[test]
 fn the_branch_of_a_table(rt: HostRuntime) -> Result<(), Fail> {
-    let problem = lasting(&rt, OPEN)?;
+    let problem = lasting(rt.alloc(), OPEN)?;
     let table = read_table(&rt, &problem.spec, "p: 0 1 1")?;
     let branch = of_table(rt.alloc(), &problem, &table)?;
     let text = branch_text(rt.alloc(), &branch)?;
@@ -50,47 +68,80 @@ fn the_branch_of_a_table(rt: HostRuntime) -> Result<(), Fail> {
 }
 
 #[test]
-fn copies_of_branches(rt: HostRuntime) -> Result<(), Fail> {
-    let problem = lasting(&rt, OPEN)?;
+fn a_copy_of_a_branch(rt: HostRuntime) -> Result<(), Fail> {
+    let problem = lasting(rt.alloc(), OPEN)?;
     let root = fitting_root(rt.alloc(), &problem)?;
     let copied = copy(rt.alloc(), &root)?;
     assert!(rt; same(&root, &copied));
-    let Stepped::Two(fork, left, right) = stepped(rt.alloc(), &problem, root)? else {
-        panic!(rt; "the root has no halves");
-    };
-    assert!(rt; same(fork.start(), &copied));
-    assert!(rt; same(fork.left(), &left) && same(fork.right(), &right));
-    assert!(rt; !same(&left, &right) && !same(&left, &copied));
-    Ok(())
+    parts_in_two(&rt, &problem, root, &copied)
+}
+
+/// Asserts that a branch is parted in two that differ, and that the fork holds it and the two.
+fn parts_in_two(
+    rt: &(impl Abort + AllocGlobal),
+    problem: &Problem,
+    branch: Branch,
+    copied: &Branch,
+) -> Result<(), Fail>
+    requires { Fits problem.now branch }
+{
+    match stepped(rt.alloc(), problem, branch)? {
+        Stepped::Two(fork, left, right) => {
+            is_fork_of(rt, &fork, copied, &left, &right);
+            Ok(())
+        }
+        _ => panic!(rt; "the branch has no halves"),
+    }
+}
+
+fn is_fork_of(rt: &impl Abort, fork: &Fork<'_>, start: &Branch, left: &Branch, right: &Branch) {
+    assert!(rt; same(fork.start(), start));
+    assert!(rt; same(fork.left(), left));
+    assert!(rt; same(fork.right(), right));
+    assert!(rt; !same(left, right));
+    assert!(rt; !same(left, start));
 }
 
 #[test]
 fn problems_that_are_the_same(rt: HostRuntime) -> Result<(), Fail> {
-    let problem = lasting(&rt, OPEN)?;
-    assert!(rt; same_problem(&problem, &lasting(&rt, OPEN)?));
-    assert!(rt; !same_problem(&problem, &lasting(&rt, "p: ? ? 0")?));
-    let other = "time 3; item p : bool; axiom B : Dist(true, 1) & p -> Futr(p, 1);";
-    let other = problem_of(rt.alloc(), other.as_bytes(), OPEN.as_bytes())?;
-    assert!(rt; !same_problem(&problem, &other));
+    let alloc = rt.alloc();
+    let problem = lasting(alloc, OPEN)?;
+    let again = lasting(alloc, OPEN)?;
+    assert!(rt; same_problem(&problem, &again));
+    let known = lasting(alloc, "p: ? ? 0")?;
+    assert!(rt; !same_problem(&problem, &known));
+    let text = "time 3; item p : bool; axiom B : Dist(true, 1) & p -> Futr(p, 1);";
+    let renamed = problem_of(alloc, text.as_bytes(), OPEN.as_bytes())?;
+    assert!(rt; !same_problem(&problem, &renamed));
     Ok(())
+}
+
+/// The values 4, -1, 7, 2 and 3.
+fn five_values(alloc: Global) -> Result<Env, AllocError> {
+    let mut values = Env::from_slice(alloc, &[4, -1, 7])?;
+    values.push(2)?;
+    values.push(3)?;
+    Ok(values)
 }
 
 #[test]
 fn lists_of_values(rt: HostRuntime) -> Result<(), Fail> {
-    let mut values = Env::from_slice(rt.alloc(), &[4, -1, 7])?;
-    values.push(2)?;
-    values.push(3)?;
-    assert_eq!(rt; values.len(), 5);
+    let mut values = five_values(rt.alloc())?;
+    assert!(rt; values.len() == 5);
+    assert_eq!(rt; values.get(1), -1);
     values.set(1, 9);
-    assert_eq!(rt; values.get(1), 9);
     let copied = values.copy(rt.alloc())?;
     assert_eq!(rt; values.pop(), Some(3));
     assert_eq!(rt; values.as_slice(), [4, 9, 7, 2].as_slice());
     assert_eq!(rt; copied.as_slice(), [4, 9, 7, 2, 3].as_slice());
-    let mut none = Env::new(rt.alloc());
-    assert_eq!(rt; none.len(), 0);
-    assert_eq!(rt; none.pop(), None);
     Ok(())
+}
+
+#[test]
+fn an_empty_list_of_values(rt: HostRuntime) {
+    let mut values = Env::new(rt.alloc());
+    assert_eq!(rt; values.len(), 0);
+    assert_eq!(rt; values.pop(), None);
 }
 
 #[test]
