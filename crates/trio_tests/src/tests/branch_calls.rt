@@ -15,15 +15,18 @@ use trio_reader::{read_spec, spec_text};
 
 const LASTING: &str = "time 3; item p : bool; axiom A : Dist(true, 1) & p -> Futr(p, 1);";
 
+/// The same with another name for the axiom.
+const RENAMED: &str = "time 3; item p : bool; axiom B : Dist(true, 1) & p -> Futr(p, 1);";
+
 const OPEN: &str = "p: ? ? ?";
 
-fn lasting(alloc: Global, given: &str) -> Result<Problem, Fail> {
-    problem_of(alloc, LASTING.as_bytes(), given.as_bytes())
+fn lasting(alloc: Global) -> Result<Problem, Fail> {
+    problem_of(alloc, LASTING.as_bytes(), OPEN.as_bytes())
 }
 
 #[test]
 fn the_root_of_a_problem(rt: HostRuntime) -> Result<(), Fail> {
-    let problem = lasting(rt.alloc(), OPEN)?;
+    let problem = lasting(rt.alloc())?;
     let root = fitting_root(rt.alloc(), &problem)?;
     let text = branch_text(rt.alloc(), &root)?;
     assert_eq!(rt; text.as_str(), "3 3 3; 9 0 t 0; 9 1 t 0; 9 2 t 0");
@@ -44,7 +47,7 @@ fn root_holds(
 
 #[test]
 fn the_root_in_tables(rt: HostRuntime) -> Result<(), Fail> {
-    let problem = lasting(rt.alloc(), OPEN)?;
+    let problem = lasting(rt.alloc())?;
     for (table, want) in [
         ("p: 0 0 1", true),
         ("p: 1 0 0", false),
@@ -59,7 +62,7 @@ fn the_root_in_tables(rt: HostRuntime) -> Result<(), Fail> {
 
 #[test]
 fn the_branch_of_a_table(rt: HostRuntime) -> Result<(), Fail> {
-    let problem = lasting(rt.alloc(), OPEN)?;
+    let problem = lasting(rt.alloc())?;
     let table = read_table(&rt, &problem.spec, "p: 0 1 1")?;
     let branch = of_table(rt.alloc(), &problem, &table)?;
     let text = branch_text(rt.alloc(), &branch)?;
@@ -69,7 +72,7 @@ fn the_branch_of_a_table(rt: HostRuntime) -> Result<(), Fail> {
 
 #[test]
 fn a_copy_of_a_branch(rt: HostRuntime) -> Result<(), Fail> {
-    let problem = lasting(rt.alloc(), OPEN)?;
+    let problem = lasting(rt.alloc())?;
     let root = fitting_root(rt.alloc(), &problem)?;
     let copied = copy(rt.alloc(), &root)?;
     assert!(rt; same(&root, &copied));
@@ -102,17 +105,26 @@ fn is_fork_of(rt: &impl Abort, fork: &Fork<'_>, start: &Branch, left: &Branch, r
     assert!(rt; !same(left, start));
 }
 
+/// Whether the problem of these texts is the same as that of the two above.
+fn is_lasting(alloc: Global, spec: &str, given: &str) -> Result<bool, Fail> {
+    let problem = lasting(alloc)?;
+    let other = problem_of(alloc, spec.as_bytes(), given.as_bytes())?;
+    Ok(same_problem(&problem, &other))
+}
+
 #[test]
 fn problems_that_are_the_same(rt: HostRuntime) -> Result<(), Fail> {
-    let alloc = rt.alloc();
-    let problem = lasting(alloc, OPEN)?;
-    let again = lasting(alloc, OPEN)?;
-    assert!(rt; same_problem(&problem, &again));
-    let known = lasting(alloc, "p: ? ? 0")?;
-    assert!(rt; !same_problem(&problem, &known));
-    let text = "time 3; item p : bool; axiom B : Dist(true, 1) & p -> Futr(p, 1);";
-    let renamed = problem_of(alloc, text.as_bytes(), OPEN.as_bytes())?;
-    assert!(rt; !same_problem(&problem, &renamed));
+    for (spec, given, want) in [
+        (LASTING, OPEN, true),
+        (LASTING, "p: ? ? 0", false),
+        (RENAMED, OPEN, false),
+    ] {
+        assert_eq!(rt;
+            is_lasting(rt.alloc(), spec, given)?,
+            want,
+            "{spec} {given}"
+        );
+    }
     Ok(())
 }
 
