@@ -1,2 +1,2 @@
 mod More
-mod OneMoreSet
+mod OneMoreEntry

@@ -3,7 +3,7 @@ ghost use Rattle.std.specs.Prelude.{◌≡◌, ◌++◌, ◌∷◌, [], IfOk, On
 ghost use Rattle.trio_types.specs.Verdict.{world_of};
 ghost use Rattle.trio_types.specs.Cells.{IsTable};
 
-use super::tables::table_of;
+use super::tables::read_table;
 use history_table::{Table, Tables, given_text, list_text, read_history, table_text};
 use std::alloc::AllocError;
 use std::process::Abort;
@@ -98,18 +98,6 @@ fn a_table_as_it_is_printed(rt: HostRuntime) -> Result<(), Fail> {
     let text = table_text(alloc, &spec, &table)?;
     assert_eq!(rt; text.as_slice(), PRINTED_TABLE.as_bytes());
     Ok(())
-}
-
-/// The table that a text is.
-fn read_table(rt: &(impl Abort + AllocGlobal), spec: &Spec, text: &str) -> Result<Table, Fail>
-    ensures { IfOk result (IsTable (world_of spec.now)) }
-{
-    let alloc = rt.alloc();
-    let given = read_history(alloc, spec, text.as_bytes())?;
-    let Some(table) = table_of(alloc, spec, &given)? else {
-        panic!(rt; "a value is not known");
-    };
-    Ok(table)
 }
 
 /// The text of the list of the tables that these texts are.

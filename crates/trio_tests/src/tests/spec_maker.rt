@@ -55,6 +55,9 @@ const ON_TWO: [&str; 2] = ["Until", "Since"];
 const ITEMS: &str =
     "input q(d, m) : bool;\nitem s : d; // a note\ninput w(m, bool) : m;\nitem n(d) : e;\nitem r(e, bool, m) : d;\n";
 
+const SMALL_DOMAINS: &str =
+    "item p : bool;\ndomain m = {red, green};\ndomain d = 0..1;\ndomain e = 0..1;\n";
+
 /// The variables, by the bits of a scope.
 const X: u32 = 0;
 
@@ -103,6 +106,31 @@ pub fn made_spec(alloc: Global, number: u64) -> Result<String, AllocError> {
     let claims = 1 + spec.number(3);
     for claim in 0..claims {
         spec.claim(alloc, claim, instants)?;
+    }
+    let SpecMaker { text, .. } = spec;
+    Ok(text)
+}
+
+/// The text of a specification of few cells, with one or two axioms at an instant each.
+pub fn made_small_spec(alloc: Global, number: u64) -> Result<String, AllocError> {
+    let mut spec = SpecMaker {
+        maker: Maker::new(number.wrapping_mul(11_400_714_819_323_198_485)),
+        text: String::new(alloc),
+        scope: 0,
+    };
+    let instants = 1 + spec.number(3);
+    let time = format!(in alloc; "time {instants};\n")?;
+    spec.write(time.as_str())?;
+    spec.write(SMALL_DOMAINS)?;
+    spec.write(ITEMS)?;
+    let axioms = 1 + spec.number(2);
+    for axiom in 0..axioms {
+        let instant = spec.number(instants);
+        let head = format!(in alloc; "axiom A{axiom} at {instant} : ")?;
+        spec.write(head.as_str())?;
+        let depth = 1 + spec.number(3);
+        spec.formula(depth as u32)?;
+        spec.write(";\n")?;
     }
     let SpecMaker { text, .. } = spec;
     Ok(text)

@@ -7,7 +7,7 @@ use Rattle.trio_types.specs.Verdict.{world_of}
 use Rattle.trio_types.specs.Cells.{cells_of, cell_size}
 use Rattle.trio_core.specs.Sets.{is_set}
 use Rattle.trio_tests.proofs.More.{no_pairs}
-use Rattle.trio_tests.proofs.OneMoreSet.{one_more_set}
+use Rattle.trio_tests.proofs.OneMoreEntry.{one_more_entry}
 use Rattle.trio_tests.proofs.tests.sets.sets_of.Goals as goal
 
 pub loop-cell-init : goal.loop-cell-init
@@ -29,5 +29,5 @@ loop-cell-preserved c =
     ap (λ n. option_map (cell_size w) (slice_get (cells_of w) n)) c.loop-cell.invariant.0 ∙ c.cell_size.ensures in (
       omega (arith, ap length c.in_ok-add_set.ensures, length-append sets (set ∷ []), c.loop-cell.invariant.0),
       ap (λ s. list_all (λ p. is_set (cell_size w p.0) p.1) (zip (cells_of w) s)) c.in_ok-add_set.ensures
-          ∙ one_more_set w sets size set c.loop-cell.invariant.1 sized is,
+          ∙ one_more_entry is_set w sets size set c.loop-cell.invariant.1 sized is,
     )

@@ -1,0 +1,6 @@
+-- As many entries as there were steps.
+use Rattle.std.proofs.Common.{◌≡◌, length}
+use Rattle.trio_tests.proofs.tests.tables.made_open_given.Given as goal
+
+abbrev pub invariant-loop-cell : goal.invariant-loop-cell
+invariant-loop-cell l = length l.given ≡ l.cell

@@ -1,0 +1,292 @@
+//! Random paths of steps, from the roots of made problems to their ends, against the models that the checker finds.
+ghost use Rattle.std.specs.Prelude.{◌≡◌, IfOk, IfSome};
+ghost use Rattle.std.specs.List.{All};
+ghost use Rattle.trio_types.specs.Cells.{IsTable};
+ghost use Rattle.branch_state.specs.Posed.{world_of_problem};
+ghost use Rattle.branch_state.specs.Branches.{Fits};
+
+use super::branches::{fitting_root, half, problem_of, stepped};
+use super::maker::Maker;
+use super::models::{holding, models_of};
+use super::spec_maker::made_small_spec;
+use super::tables::made_open_given;
+use super::weights::weight;
+use branch_state::{Branch, Problem};
+use decompose::{Fork, Stepped};
+use history_table::{Table, given_text};
+use std::alloc::{AllocError, Global};
+use std::process::Abort;
+use std::test::Fail;
+use trio_reader::read_spec;
+
+/// How many paths ended with no model and with one, and how often a half got all models of a branch and each half some.
+#[derive(Drop)]
+struct Seen {
+    closed: u32,
+    whole: u32,
+    kept: u32,
+    shared: u32,
+}
+
+/// Which of the models a branch, its left half and its right half hold in.
+#[derive(Drop)]
+struct Shares {
+    start: Vec<bool>,
+    left: Vec<bool>,
+    right: Vec<bool>,
+}
+
+/// Where the halves of a fork hold, beside where its branch does.
+fn shares_of(
+    alloc: Global,
+    problem: &Problem,
+    fork: &Fork<'_>,
+    models: &[Table],
+    start: Vec<bool>,
+) -> Result<Shares, AllocError>
+    requires of_problem { fork.now.problem ≡ problem.now }
+    requires tables_fit { All (IsTable (world_of_problem problem.now)) models.now }
+{
+    let _problem = fork.problem();
+    let left = holding(alloc, problem, fork.left(), models)?;
+    let right = holding(alloc, problem, fork.right(), models)?;
+    Ok(Shares { start, left, right })
+}
+
+/// Asserts that each model of a branch is one of just one half, and each other model of none.
+fn parts(rt: &impl Abort, shares: &Shares) {
+    for place in 0..shares.start.len() {
+        let start = is_at(shares.start.as_slice(), place);
+        let left = is_at(shares.left.as_slice(), place);
+        let right = is_at(shares.right.as_slice(), place);
+        assert!(rt; is_parted(start, left, right));
+    }
+}
+
+fn is_parted(start: bool, left: bool, right: bool) -> bool {
+    if start {
+        left != right
+    } else {
+        !left && !right
+    }
+}
+
+fn is_at(held: &[bool], place: usize) -> bool {
+    match held.get(place) {
+        Some(is) => *is,
+        None => false,
+    }
+}
+
+fn count_parted(shares: &Shares, seen: &mut Seen) {
+    if shares.left.contains(&true) && shares.right.contains(&true) {
+        seen.shared = seen.shared.saturating_add(1);
+    } else if shares.start.contains(&true) {
+        seen.kept = seen.kept.saturating_add(1);
+    }
+}
+
+/// Asserts that a branch holds in its table, and in no other model.
+fn is_alone(rt: &impl Abort, held: &[bool], models: &[Table], table: &Table) {
+    assert!(rt; held.contains(&true));
+    for (place, model) in models.iter().enumerate() {
+        let is_table = model.as_slice() == table.as_slice();
+        assert_eq!(rt; is_table, is_at(held, place));
+    }
+}
+
+/// One step: asserts what its answer holds, and gives one of the halves of a branch that is parted.
+fn next(
+    rt: &(impl Abort + AllocGlobal),
+    problem: &Problem,
+    branch: Branch,
+    models: &[Table],
+    is_left: bool,
+    seen: &mut Seen,
+) -> Result<Option<Branch>, Fail>
+    requires fits { Fits problem.now branch }
+    requires tables_fit { All (IsTable (world_of_problem problem.now)) models.now }
+    ensures { IfOk result (λ found. IfSome found (Fits problem.now)) }
+{
+    let start = holding(rt.alloc(), problem, &branch, models)?;
+    match stepped(rt.alloc(), problem, branch)? {
+        Stepped::Closed(_) => {
+            ends_closed(rt, start.as_slice(), seen);
+            Ok(None)
+        }
+        Stepped::Whole(leaf) => {
+            ends_whole(rt, start.as_slice(), models, leaf.table(), seen);
+            Ok(None)
+        }
+        Stepped::Two(fork, _, _) => {
+            let chosen = parted(rt, problem, fork, models, start, is_left, seen)?;
+            Ok(Some(chosen))
+        }
+    }
+}
+
+/// Asserts that a branch holds in no model.
+fn ends_closed(rt: &impl Abort, held: &[bool], seen: &mut Seen) {
+    let is_some = held.contains(&true);
+    assert!(rt; !is_some);
+    seen.closed = seen.closed.saturating_add(1);
+}
+
+fn ends_whole(rt: &impl Abort, held: &[bool], models: &[Table], table: &Table, seen: &mut Seen) {
+    is_alone(rt, held, models, table);
+    seen.whole = seen.whole.saturating_add(1);
+}
+
+/// Asserts that the halves of a branch part its models, and gives one of the two.
+fn parted(
+    rt: &(impl Abort + AllocGlobal),
+    problem: &Problem,
+    fork: Fork<'_>,
+    models: &[Table],
+    start: Vec<bool>,
+    is_left: bool,
+    seen: &mut Seen,
+) -> Result<Branch, Fail>
+    requires of_problem { fork.problem ≡ problem.now }
+    requires tables_fit { All (IsTable (world_of_problem problem.now)) models.now }
+    ensures { IfOk result (Fits problem.now) }
+{
+    let shares = shares_of(rt.alloc(), problem, &fork, models, start)?;
+    parts(rt, &shares);
+    count_parted(&shares, seen);
+    Ok(half(problem, fork, is_left))
+}
+
+/// A path from the root to its end: each branch is lighter than the one before, so it ends within the root's weight.
+fn path(
+    rt: &(impl Abort + AllocGlobal),
+    problem: &Problem,
+    models: &[Table],
+    maker: &mut Maker,
+    seen: &mut Seen,
+) -> Result<(), Fail>
+    requires { All (IsTable (world_of_problem problem.now)) models.now }
+{
+    let root = fitting_root(rt.alloc(), problem)?;
+    holds_in_all(rt, problem, &root, models)?;
+    let most = weight(rt.alloc(), problem, &root)?;
+    let has_ended = walk(rt, problem, root, models, most, maker, seen)?;
+    assert!(rt; has_ended);
+    Ok(())
+}
+
+/// Whether a path from a branch ends within one step more than this many.
+fn walk(
+    rt: &(impl Abort + AllocGlobal),
+    problem: &Problem,
+    root: Branch,
+    models: &[Table],
+    most: u64,
+    maker: &mut Maker,
+    seen: &mut Seen,
+) -> Result<bool, Fail>
+    requires fits { Fits problem.now root }
+    requires tables_fit { All (IsTable (world_of_problem problem.now)) models.now }
+{
+    let mut branch = root;
+    for _step in 0..most.saturating_add(1) {
+        match next_lighter(rt, problem, branch, models, maker, seen)? {
+            Some(chosen) => branch = chosen,
+            None => return Ok(true),
+        }
+    }
+    Ok(false)
+}
+
+/// One step, to a half that is lighter where the branch is parted.
+fn next_lighter(
+    rt: &(impl Abort + AllocGlobal),
+    problem: &Problem,
+    branch: Branch,
+    models: &[Table],
+    maker: &mut Maker,
+    seen: &mut Seen,
+) -> Result<Option<Branch>, Fail>
+    requires fits { Fits problem.now branch }
+    requires tables_fit { All (IsTable (world_of_problem problem.now)) models.now }
+    ensures { IfOk result (λ found. IfSome found (Fits problem.now)) }
+{
+    let before = weight(rt.alloc(), problem, &branch)?;
+    let is_left = maker.number(2) == 0;
+    let found = next(rt, problem, branch, models, is_left, seen)?;
+    if let Some(chosen) = &found {
+        is_lighter(rt, problem, chosen, before)?;
+    }
+    Ok(found)
+}
+
+fn holds_in_all(
+    rt: &(impl Abort + AllocGlobal),
+    problem: &Problem,
+    branch: &Branch,
+    models: &[Table],
+) -> Result<(), Fail>
+    requires fits { Fits problem.now branch.now }
+    requires tables_fit { All (IsTable (world_of_problem problem.now)) models.now }
+{
+    let held = holding(rt.alloc(), problem, branch, models)?;
+    let lacks_one = held.contains(&false);
+    assert!(rt; !lacks_one);
+    Ok(())
+}
+
+fn is_lighter(
+    rt: &(impl Abort + AllocGlobal),
+    problem: &Problem,
+    branch: &Branch,
+    before: u64,
+) -> Result<(), Fail> {
+    let after = weight(rt.alloc(), problem, branch)?;
+    assert!(rt; after < before);
+    Ok(())
+}
+
+/// A made problem, with a given history that leaves few tables.
+fn made_problem(
+    rt: &(impl Abort + AllocGlobal),
+    maker: &mut Maker,
+    number: u64,
+) -> Result<Problem, Fail> {
+    let alloc = rt.alloc();
+    let text = made_small_spec(alloc, number)?;
+    let spec = read_spec(alloc, text.as_bytes())?;
+    let chance = 1 + maker.number(4);
+    let given = made_open_given(alloc, maker, &spec, 64, chance)?;
+    let history = given_text(alloc, &spec, &given)?;
+    problem_of(alloc, text.as_bytes(), history.as_slice())
+}
+
+/// Two paths of a made problem.
+fn check_problem(
+    rt: &(impl Abort + AllocGlobal),
+    number: u64,
+    seen: &mut Seen,
+) -> Result<(), Fail> {
+    let mut maker = Maker::new(number);
+    let problem = made_problem(rt, &mut maker, number)?;
+    let models = models_of(rt, &problem)?;
+    path(rt, &problem, models.as_slice(), &mut maker, seen)?;
+    path(rt, &problem, models.as_slice(), &mut maker, seen)?;
+    Ok(())
+}
+
+#[test]
+fn paths_keep_the_models(rt: HostRuntime) -> Result<(), Fail> {
+    let mut seen = Seen {
+        closed: 0,
+        whole: 0,
+        kept: 0,
+        shared: 0,
+    };
+    for number in 0_u64..1200 {
+        check_problem(&rt, number, &mut seen)?;
+    }
+    assert!(rt; seen.closed >= 800 && seen.whole >= 400);
+    assert!(rt; seen.kept >= 150 && seen.shared >= 1000);
+    Ok(())
+}
