@@ -18,10 +18,7 @@ use trio_workers::{Outcome, Stopped, all_models, run_one};
 /// Once `p` holds, it holds at each later instant.
 const LASTING: &str = "time 3; item p : bool; axiom A : Dist(true, 1) & p -> Futr(p, 1);";
 
-/// The same, under another name.
-const RENAMED: &str = "time 3; item p : bool; axiom B : Dist(true, 1) & p -> Futr(p, 1);";
-
-/// The models of both.
+/// Its models.
 const MODELS: [[u16; 3]; 4] = [[0, 0, 0], [0, 0, 1], [0, 1, 1], [1, 1, 1]];
 
 /// The same with another table.
@@ -143,25 +140,6 @@ fn assembled_of_all_regions(rt: HostRuntime) -> Result<(), Fail> {
     Ok(())
 }
 
-/// The search ends with a step that gives nothing. Without its region just the branch of that step is left.
-#[test]
-fn assembled_without_the_last_region(rt: HostRuntime) -> Result<(), Fail> {
-    let problem = open(rt.alloc(), LASTING)?;
-    let starts = root_alone(rt.alloc(), &problem)?;
-    let Searched { mut parts, .. } = search(rt.alloc(), &problem)?;
-    let Some(last) = parts.pop() else {
-        panic!(rt; "no step was taken");
-    };
-    let made = assemble(rt.alloc(), &problem, starts, List::from_vec(parts))?;
-    is_alone(&rt, &made.rest, last.start());
-    assert_eq!(rt; made.dropped, 0);
-    let mut found = made.found.into_vec();
-    found.append(&mut last.into_parts().found.into_vec())?;
-    let found = sort_tables(List::from_vec(found));
-    are(&rt, &found, MODELS.as_slice());
-    Ok(())
-}
-
 #[test]
 fn assembled_from_no_start(rt: HostRuntime) -> Result<(), Fail> {
     let problem = open(rt.alloc(), LASTING)?;
@@ -185,22 +163,6 @@ fn assembled_of_no_region(rt: HostRuntime) -> Result<(), Fail> {
     is_alone(&rt, &made.rest, &root);
     assert!(rt; made.found.is_empty());
     assert_eq!(rt; made.dropped, 0);
-    Ok(())
-}
-
-#[test]
-fn assembled_of_regions_of_another_problem(rt: HostRuntime) -> Result<(), Fail> {
-    let problem = open(rt.alloc(), LASTING)?;
-    let starts = root_alone(rt.alloc(), &problem)?;
-    let renamed = open(rt.alloc(), RENAMED)?;
-    let Searched { parts, .. } = search(rt.alloc(), &renamed)?;
-    let count = parts.len();
-    let made = assemble(rt.alloc(), &problem, starts, List::from_vec(parts))?;
-    let root = fitting_root(rt.alloc(), &problem)?;
-    is_alone(&rt, &made.rest, &root);
-    assert!(rt; made.found.is_empty());
-    assert!(rt; count > 0);
-    assert_eq!(rt; made.dropped, count as u64);
     Ok(())
 }
 
