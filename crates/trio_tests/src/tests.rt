@@ -9,6 +9,7 @@ mod node_rows;
 mod nodes;
 mod paths;
 mod printing;
+mod regions;
 mod round_trips;
 mod sets;
 mod spec_maker;

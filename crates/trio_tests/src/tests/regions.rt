@@ -1,0 +1,228 @@
+//! Regions of the search, put together as it goes and afterwards, and runs of one worker.
+ghost use Rattle.std.specs.Prelude.{◌≡◌, ◌<◌, ◌-◌, [], All, IfOk, Some, length, slice_get};
+ghost use Rattle.branch_state.specs.Branches.{Fits};
+
+use super::branches::{fitting_root, problem_of, stepped};
+use super::tables::read_table;
+use branch_state::{Branch, Branches, List, Problem, Tables, copy, same, same_problem};
+use decompose::{Stepped, Steps};
+use emit_ledger::{Region, assemble, sort_tables};
+use std::alloc::{AllocError, Global};
+use std::marker::Brand;
+use std::process::Abort;
+use std::sync::ledger::{Blank, Ledger};
+use std::test::Fail;
+use trio_workers::laws::root_gives_all_models;
+use trio_workers::{Outcome, Stopped, all_models, run_one};
+
+/// Once `p` holds, it holds at each later instant.
+const LASTING: &str = "time 3; item p : bool; axiom A : Dist(true, 1) & p -> Futr(p, 1);";
+
+/// Its models.
+const MODELS: [[u16; 3]; 4] = [[0, 0, 0], [0, 0, 1], [0, 1, 1], [1, 1, 1]];
+
+/// The same with another table.
+const WITH_KEPT: [[u16; 3]; 5] = [[0, 0, 0], [0, 0, 1], [0, 1, 0], [0, 1, 1], [1, 1, 1]];
+
+/// The problem of a specification on `p` at three instants, with no value given.
+fn open(alloc: Global, spec: &str) -> Result<Problem, Fail> {
+    problem_of(alloc, spec.as_bytes(), "p: ? ? ?".as_bytes())
+}
+
+/// Asserts that tables are these, in this order.
+fn are(rt: &impl Abort, tables: &Tables, wanted: &[[u16; 3]]) {
+    assert_eq!(rt; tables.len(), wanted.len());
+    for (table, want) in tables.as_slice().iter().zip(wanted) {
+        assert!(rt; table.as_slice() == want.as_slice());
+    }
+}
+
+/// Asserts that branches are this one alone.
+fn is_alone(rt: &impl Abort, branches: &Branches, wanted: &Branch) {
+    assert_eq!(rt; branches.len(), 1);
+    for branch in branches.as_slice() {
+        assert!(rt; same(branch, wanted));
+    }
+}
+
+/// The region of one step on a branch.
+fn region_of_step<'p>(
+    alloc: Global,
+    problem: &'p Problem,
+    branch: Branch,
+) -> Result<Region<'p>, AllocError>
+    requires { Fits problem.now branch }
+    ensures { IfOk result (λ part. (part.problem ≡ problem.now) × (part.start ≡ branch)) }
+{
+    match stepped(alloc, problem, branch)? {
+        Stepped::Closed(shut) => Region::shut(alloc, &shut),
+        Stepped::Whole(leaf) => Region::leaf(alloc, leaf),
+        Stepped::Two(fork, _, _) => Region::fork(alloc, fork),
+    }
+}
+
+/// The region of a step on the last given branch of a region.
+fn part_of_last<'p>(alloc: Global, region: &Region<'p>) -> Result<Region<'p>, AllocError>
+    requires { region.now.given ≡ [] → ⊥ }
+    ensures problem { IfOk result (λ part. part.problem ≡ region.now.problem) }
+    ensures last { IfOk result (λ part. slice_get region.now.given (length region.now.given - 1) ≡ Some part.start) }
+{
+    let problem = region.problem();
+    let given = region.given();
+    let last = copy(alloc, given.get(given.len() - 1))?;
+    region_of_step(alloc, problem, last)
+}
+
+/// Absorbs the region of a step on the last given branch.
+fn advance(alloc: Global, region: &mut Region<'_>) -> Result<(), AllocError>
+    requires { region.old.given ≡ [] → ⊥ }
+{
+    let part = part_of_last(alloc, region)?;
+    match region.absorb(alloc, part) {
+        Ok(()) => Ok(()),
+        Err((_, refused)) => Err(refused),
+    }
+}
+
+/// A region of the root that absorbs steps until nothing is given, and the regions of these steps.
+#[derive(Drop)]
+struct Searched<'p> {
+    whole: Region<'p>,
+    parts: Vec<Region<'p>>,
+}
+
+/// A search of at most 200 steps.
+fn search(alloc: Global, problem: &Problem) -> Result<Searched<'_>, AllocError> {
+    let root = fitting_root(alloc, problem)?;
+    let mut whole = Region::give(alloc, problem, &root)?;
+    let mut parts = Vec::new(alloc);
+    for _ in 0..200 {
+        if !whole.given().is_empty() {
+            parts.push(part_of_last(alloc, &whole)?)?;
+            advance(alloc, &mut whole)?;
+        }
+    }
+    Ok(Searched { whole, parts })
+}
+
+/// The root of a problem, in a list.
+fn root_alone(alloc: Global, problem: &Problem) -> Result<Branches, AllocError>
+    ensures { IfOk result (All (Fits problem.now)) }
+{
+    let mut starts = Vec::new(alloc);
+    starts.push(fitting_root(alloc, problem)?)?;
+    Ok(List::from_vec(starts))
+}
+
+#[test]
+fn a_region_that_absorbs(rt: HostRuntime) -> Result<(), Fail> {
+    let problem = open(rt.alloc(), LASTING)?;
+    let root = fitting_root(rt.alloc(), &problem)?;
+    let Searched { whole, .. } = search(rt.alloc(), &problem)?;
+    assert!(rt; whole.given().is_empty());
+    assert_eq!(rt; whole.found().len(), 4);
+    assert!(rt; same(whole.start(), &root));
+    assert!(rt; same_problem(whole.problem(), &problem));
+    let found = sort_tables(whole.into_parts().found);
+    are(&rt, &found, MODELS.as_slice());
+    Ok(())
+}
+
+#[test]
+fn assembled_of_all_regions(rt: HostRuntime) -> Result<(), Fail> {
+    let problem = open(rt.alloc(), LASTING)?;
+    let starts = root_alone(rt.alloc(), &problem)?;
+    let Searched { parts, .. } = search(rt.alloc(), &problem)?;
+    let made = assemble(rt.alloc(), &problem, starts, List::from_vec(parts))?;
+    are(&rt, &made.found, MODELS.as_slice());
+    assert!(rt; made.rest.is_empty());
+    assert_eq!(rt; made.dropped, 0);
+    Ok(())
+}
+
+#[test]
+fn assembled_from_no_start(rt: HostRuntime) -> Result<(), Fail> {
+    let problem = open(rt.alloc(), LASTING)?;
+    let Searched { parts, .. } = search(rt.alloc(), &problem)?;
+    let count = parts.len();
+    let regions = List::from_vec(parts);
+    let made = assemble(rt.alloc(), &problem, List::new(rt.alloc()), regions)?;
+    assert!(rt; made.found.is_empty());
+    assert!(rt; made.rest.is_empty());
+    assert!(rt; count > 0);
+    assert_eq!(rt; made.dropped, count as u64);
+    Ok(())
+}
+
+#[test]
+fn assembled_of_no_region(rt: HostRuntime) -> Result<(), Fail> {
+    let problem = open(rt.alloc(), LASTING)?;
+    let starts = root_alone(rt.alloc(), &problem)?;
+    let made = assemble(rt.alloc(), &problem, starts, List::new(rt.alloc()))?;
+    let root = fitting_root(rt.alloc(), &problem)?;
+    is_alone(&rt, &made.rest, &root);
+    assert!(rt; made.found.is_empty());
+    assert_eq!(rt; made.dropped, 0);
+    Ok(())
+}
+
+/// A run, over a count of its own.
+fn run(
+    alloc: Global,
+    problem: &Problem,
+    kept: Tables,
+    starts: Branches,
+) -> Result<Outcome, AllocError>
+    requires { All (Fits problem.now) starts }
+{
+    counted::<Brand>(alloc, problem, kept, starts, Blank::new(1))
+}
+
+fn counted<L: Ledger>(
+    alloc: Global,
+    problem: &Problem,
+    kept: Tables,
+    starts: Branches,
+    blank: Blank,
+) -> Result<Outcome, AllocError>
+    requires fit { All (Fits problem.now) starts }
+    requires name { blank.name ≡ L.name }
+    requires parts { blank.parts ≡ L.parts }
+    requires some { 0 < L.parts }
+{
+    let mut steps = Steps::<L>::start(blank);
+    run_one(alloc, problem, kept, starts, &mut steps)
+}
+
+/// The halves of the root, in a list.
+fn halves(alloc: Global, problem: &Problem) -> Result<Branches, AllocError>
+    ensures { IfOk result (All (Fits problem.now)) }
+{
+    let root = fitting_root(alloc, problem)?;
+    let part = region_of_step(alloc, problem, root)?;
+    Ok(part.into_parts().given)
+}
+
+/// What is kept stays, though it is no model, and stands in its place.
+#[test]
+fn a_run_from_two_starts(rt: HostRuntime) -> Result<(), Fail> {
+    let problem = open(rt.alloc(), LASTING)?;
+    let starts = halves(rt.alloc(), &problem)?;
+    assert_eq!(rt; starts.len(), 2);
+    let mut kept = Vec::new(rt.alloc());
+    kept.push(read_table(&rt, &problem.spec, "p: 0 1 0")?)?;
+    let outcome = run(rt.alloc(), &problem, List::from_vec(kept), starts)?;
+    are(&rt, &outcome.found, WITH_KEPT.as_slice());
+    assert!(rt; outcome.rest.is_empty());
+    assert!(rt; outcome.stopped == Stopped::No);
+    Ok(())
+}
+
+#[test]
+fn all_models_of_a_problem(rt: HostRuntime) -> Result<(), Fail> {
+    root_gives_all_models();
+    let problem = open(rt.alloc(), LASTING)?;
+    let found = all_models(rt.alloc(), &problem)?;
+    are(&rt, &found, MODELS.as_slice());
+    Ok(())
+}
