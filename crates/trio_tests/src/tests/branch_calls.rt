@@ -24,14 +24,19 @@ fn lasting(alloc: Global) -> Result<Problem, Fail> {
     problem_of(alloc, LASTING.as_bytes(), OPEN.as_bytes())
 }
 
+/// Asserts what the root of the problem is and weighs.
+fn root_is(rt: &(impl Abort + AllocGlobal), problem: &Problem) -> Result<(), Fail> {
+    let root = fitting_root(rt.alloc(), problem)?;
+    assert_eq!(rt; weight(rt.alloc(), problem, &root)?, 33);
+    let text = branch_text(rt.alloc(), &root)?;
+    assert_eq!(rt; text.as_str(), "3 3 3; 9 0 t 0; 9 1 t 0; 9 2 t 0");
+    Ok(())
+}
+
 #[test]
 fn the_root_of_a_problem(rt: HostRuntime) -> Result<(), Fail> {
     let problem = lasting(rt.alloc())?;
-    let root = fitting_root(rt.alloc(), &problem)?;
-    let text = branch_text(rt.alloc(), &root)?;
-    assert_eq!(rt; text.as_str(), "3 3 3; 9 0 t 0; 9 1 t 0; 9 2 t 0");
-    assert_eq!(rt; weight(rt.alloc(), &problem, &root)?, 33);
-    Ok(())
+    root_is(&rt, &problem)
 }
 
 /// Whether the root of a problem holds in a table.
@@ -45,38 +50,59 @@ fn root_holds(
     Ok(holds(problem, &root, &table))
 }
 
-#[test]
-fn the_root_in_tables(rt: HostRuntime) -> Result<(), Fail> {
-    let problem = lasting(rt.alloc())?;
-    for (table, want) in [
-        ("p: 0 0 1", true),
-        ("p: 1 0 0", false),
-        ("p: 0 0 0", true),
-        ("p: 0 1 0", false),
-        ("p: 1 1 1", true),
-    ] {
-        assert_eq!(rt; root_holds(&rt, &problem, table)?, want, "{table}");
+/// Whether the root holds, table by table.
+const IN_TABLES: [(&str, bool); 5] = [
+    ("p: 0 0 1", true),
+    ("p: 1 0 0", false),
+    ("p: 0 0 0", true),
+    ("p: 0 1 0", false),
+    ("p: 1 1 1", true),
+];
+
+fn root_holds_in(
+    rt: &(impl Abort + AllocGlobal),
+    problem: &Problem,
+    tables: &[(&str, bool)],
+) -> Result<(), Fail> {
+    for (table, want) in tables {
+        assert_eq!(rt; root_holds(rt, problem, table)?, *want, "{table}");
     }
     Ok(())
 }
 
 #[test]
-fn the_branch_of_a_table(rt: HostRuntime) -> Result<(), Fail> {
+fn the_root_in_tables(rt: HostRuntime) -> Result<(), Fail> {
     let problem = lasting(rt.alloc())?;
-    let table = read_table(&rt, &problem.spec, "p: 0 1 1")?;
-    let branch = of_table(rt.alloc(), &problem, &table)?;
+    root_holds_in(&rt, &problem, IN_TABLES.as_slice())
+}
+
+/// Asserts what the branch of a table is.
+fn branch_of_table_is(rt: &(impl Abort + AllocGlobal), problem: &Problem) -> Result<(), Fail> {
+    let table = read_table(rt, &problem.spec, "p: 0 1 1")?;
+    let branch = of_table(rt.alloc(), problem, &table)?;
     let text = branch_text(rt.alloc(), &branch)?;
     assert_eq!(rt; text.as_str(), "1 2 2");
     Ok(())
 }
 
 #[test]
-fn a_copy_of_a_branch(rt: HostRuntime) -> Result<(), Fail> {
+fn the_branch_of_a_table(rt: HostRuntime) -> Result<(), Fail> {
     let problem = lasting(rt.alloc())?;
-    let root = fitting_root(rt.alloc(), &problem)?;
+    branch_of_table_is(&rt, &problem)
+}
+
+/// Asserts that a copy of the root is the root, and differs from its halves.
+fn is_copied(rt: &(impl Abort + AllocGlobal), problem: &Problem) -> Result<(), Fail> {
+    let root = fitting_root(rt.alloc(), problem)?;
     let copied = copy(rt.alloc(), &root)?;
     assert!(rt; same(&root, &copied));
-    parts_in_two(&rt, &problem, root, &copied)
+    parts_in_two(rt, problem, root, &copied)
+}
+
+#[test]
+fn a_copy_of_a_branch(rt: HostRuntime) -> Result<(), Fail> {
+    let problem = lasting(rt.alloc())?;
+    is_copied(&rt, &problem)
 }
 
 /// Asserts that a branch is parted in two that differ, and that the fork holds it and the two.
@@ -105,27 +131,38 @@ fn is_fork_of(rt: &impl Abort, fork: &Fork<'_>, start: &Branch, left: &Branch, r
     assert!(rt; !same(left, start));
 }
 
-/// Whether the problem of these texts is the same as that of the two above.
-fn is_lasting(alloc: Global, spec: &str, given: &str) -> Result<bool, Fail> {
-    let problem = lasting(alloc)?;
+/// Whether the problem of these texts is the same.
+fn is_same(alloc: Global, problem: &Problem, spec: &str, given: &str) -> Result<bool, Fail> {
     let other = problem_of(alloc, spec.as_bytes(), given.as_bytes())?;
-    Ok(same_problem(&problem, &other))
+    Ok(same_problem(problem, &other))
 }
 
-#[test]
-fn problems_that_are_the_same(rt: HostRuntime) -> Result<(), Fail> {
-    for (spec, given, want) in [
-        (LASTING, OPEN, true),
-        (LASTING, "p: ? ? 0", false),
-        (RENAMED, OPEN, false),
-    ] {
+/// Texts of problems, and whether they are the same as the problem of the first two.
+const PROBLEMS: [(&str, &str, bool); 3] = [
+    (LASTING, OPEN, true),
+    (LASTING, "p: ? ? 0", false),
+    (RENAMED, OPEN, false),
+];
+
+fn are_the_same(
+    rt: &(impl Abort + AllocGlobal),
+    problem: &Problem,
+    rows: &[(&str, &str, bool)],
+) -> Result<(), Fail> {
+    for (spec, given, want) in rows {
         assert_eq!(rt;
-            is_lasting(rt.alloc(), spec, given)?,
-            want,
+            is_same(rt.alloc(), problem, spec, given)?,
+            *want,
             "{spec} {given}"
         );
     }
     Ok(())
+}
+
+#[test]
+fn problems_that_are_the_same(rt: HostRuntime) -> Result<(), Fail> {
+    let problem = lasting(rt.alloc())?;
+    are_the_same(&rt, &problem, PROBLEMS.as_slice())
 }
 
 /// The values 4, -1, 7, 2 and 3.

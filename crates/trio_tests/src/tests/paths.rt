@@ -269,9 +269,18 @@ fn check_problem(
 ) -> Result<(), Fail> {
     let mut maker = Maker::new(number);
     let problem = made_problem(rt, &mut maker, number)?;
-    let models = models_of(rt, &problem)?;
-    path(rt, &problem, models.as_slice(), &mut maker, seen)?;
-    path(rt, &problem, models.as_slice(), &mut maker, seen)?;
+    two_paths(rt, &problem, &mut maker, seen)
+}
+
+fn two_paths(
+    rt: &(impl Abort + AllocGlobal),
+    problem: &Problem,
+    maker: &mut Maker,
+    seen: &mut Seen,
+) -> Result<(), Fail> {
+    let models = models_of(rt, problem)?;
+    path(rt, problem, models.as_slice(), maker, seen)?;
+    path(rt, problem, models.as_slice(), maker, seen)?;
     Ok(())
 }
 

@@ -18,6 +18,9 @@ use trio_workers::{Outcome, Stopped, all_models, run_one};
 /// Once `p` holds, it holds at each later instant.
 const LASTING: &str = "time 3; item p : bool; axiom A : Dist(true, 1) & p -> Futr(p, 1);";
 
+/// The same problem, under another name of its axiom.
+const RENAMED: &str = "time 3; item p : bool; axiom B : Dist(true, 1) & p -> Futr(p, 1);";
+
 /// Its models.
 const MODELS: [[u16; 3]; 4] = [[0, 0, 0], [0, 0, 1], [0, 1, 1], [1, 1, 1]];
 
@@ -114,39 +117,107 @@ fn root_alone(alloc: Global, problem: &Problem) -> Result<Branches, AllocError>
     Ok(List::from_vec(starts))
 }
 
-#[test]
-fn a_region_that_absorbs(rt: HostRuntime) -> Result<(), Fail> {
-    let problem = open(rt.alloc(), LASTING)?;
-    let root = fitting_root(rt.alloc(), &problem)?;
-    let Searched { whole, .. } = search(rt.alloc(), &problem)?;
+/// The regions of the steps of a search.
+fn parts_of(alloc: Global, problem: &Problem) -> Result<Vec<Region<'_>>, AllocError> {
+    let Searched { parts, .. } = search(alloc, problem)?;
+    Ok(parts)
+}
+
+/// Asserts that a region of the root has found the models and gives nothing.
+fn is_whole(
+    rt: &(impl Abort + AllocGlobal),
+    problem: &Problem,
+    whole: Region<'_>,
+) -> Result<(), Fail> {
+    let root = fitting_root(rt.alloc(), problem)?;
     assert!(rt; whole.given().is_empty());
     assert_eq!(rt; whole.found().len(), 4);
     assert!(rt; same(whole.start(), &root));
-    assert!(rt; same_problem(whole.problem(), &problem));
+    assert!(rt; same_problem(whole.problem(), problem));
     let found = sort_tables(whole.into_parts().found);
-    are(&rt, &found, MODELS.as_slice());
+    are(rt, &found, MODELS.as_slice());
     Ok(())
 }
 
+fn absorbs(rt: &(impl Abort + AllocGlobal), problem: &Problem) -> Result<(), Fail> {
+    let Searched { whole, .. } = search(rt.alloc(), problem)?;
+    is_whole(rt, problem, whole)
+}
+
 #[test]
-fn assembled_of_all_regions(rt: HostRuntime) -> Result<(), Fail> {
+fn a_region_that_absorbs(rt: HostRuntime) -> Result<(), Fail> {
     let problem = open(rt.alloc(), LASTING)?;
-    let starts = root_alone(rt.alloc(), &problem)?;
-    let Searched { parts, .. } = search(rt.alloc(), &problem)?;
-    let made = assemble(rt.alloc(), &problem, starts, List::from_vec(parts))?;
-    are(&rt, &made.found, MODELS.as_slice());
+    absorbs(&rt, &problem)
+}
+
+/// Asserts that all regions are used.
+fn uses_all<'p>(
+    rt: &(impl Abort + AllocGlobal),
+    problem: &'p Problem,
+    parts: Vec<Region<'p>>,
+) -> Result<(), Fail> {
+    let starts = root_alone(rt.alloc(), problem)?;
+    let made = assemble(rt.alloc(), problem, starts, List::from_vec(parts))?;
+    are(rt, &made.found, MODELS.as_slice());
     assert!(rt; made.rest.is_empty());
     assert_eq!(rt; made.dropped, 0);
     Ok(())
 }
 
 #[test]
-fn assembled_from_no_start(rt: HostRuntime) -> Result<(), Fail> {
+fn assembled_of_all_regions(rt: HostRuntime) -> Result<(), Fail> {
     let problem = open(rt.alloc(), LASTING)?;
-    let Searched { parts, .. } = search(rt.alloc(), &problem)?;
+    let parts = parts_of(rt.alloc(), &problem)?;
+    uses_all(&rt, &problem, parts)
+}
+
+/// Asserts that tables, with those that a region found, are the models.
+fn are_with(rt: &impl Abort, found: Tables, last: Region<'_>) -> Result<(), Fail> {
+    let mut found = found.into_vec();
+    found.append(&mut last.into_parts().found.into_vec())?;
+    let found = sort_tables(List::from_vec(found));
+    are(rt, &found, MODELS.as_slice());
+    Ok(())
+}
+
+/// Asserts that without the last region just its branch is left.
+fn lacks_the_last<'p>(
+    rt: &(impl Abort + AllocGlobal),
+    problem: &'p Problem,
+    parts: Vec<Region<'p>>,
+    last: Region<'p>,
+) -> Result<(), Fail> {
+    let starts = root_alone(rt.alloc(), problem)?;
+    let made = assemble(rt.alloc(), problem, starts, List::from_vec(parts))?;
+    is_alone(rt, &made.rest, last.start());
+    assert_eq!(rt; made.dropped, 0);
+    are_with(rt, made.found, last)
+}
+
+/// The search ends with a step that gives nothing, so that nothing follows from the region left out.
+fn leaves_the_last(rt: &(impl Abort + AllocGlobal), problem: &Problem) -> Result<(), Fail> {
+    let mut parts = parts_of(rt.alloc(), problem)?;
+    match parts.pop() {
+        Some(last) => lacks_the_last(rt, problem, parts, last),
+        None => panic!(rt; "no step was taken"),
+    }
+}
+
+#[test]
+fn assembled_without_the_last_region(rt: HostRuntime) -> Result<(), Fail> {
+    let problem = open(rt.alloc(), LASTING)?;
+    leaves_the_last(&rt, &problem)
+}
+
+/// Asserts that no region is used where there is no start.
+fn starts_nowhere<'p>(
+    rt: &(impl Abort + AllocGlobal),
+    problem: &'p Problem,
+    parts: Vec<Region<'p>>,
+) -> Result<(), Fail> {
     let count = parts.len();
     let regions = List::from_vec(parts);
-    let made = assemble(rt.alloc(), &problem, List::new(rt.alloc()), regions)?;
+    let made = assemble(rt.alloc(), problem, List::new(rt.alloc()), regions)?;
     assert!(rt; made.found.is_empty());
     assert!(rt; made.rest.is_empty());
     assert!(rt; count > 0);
@@ -155,15 +226,50 @@ fn assembled_from_no_start(rt: HostRuntime) -> Result<(), Fail> {
 }
 
 #[test]
+fn assembled_from_no_start(rt: HostRuntime) -> Result<(), Fail> {
+    let problem = open(rt.alloc(), LASTING)?;
+    let parts = parts_of(rt.alloc(), &problem)?;
+    starts_nowhere(&rt, &problem, parts)
+}
+
+/// Asserts that the root alone is left where no region is used, of so many.
+fn leaves_the_root<'p>(
+    rt: &(impl Abort + AllocGlobal),
+    problem: &'p Problem,
+    parts: Vec<Region<'p>>,
+) -> Result<(), Fail> {
+    let starts = root_alone(rt.alloc(), problem)?;
+    let root = fitting_root(rt.alloc(), problem)?;
+    let count = parts.len();
+    let made = assemble(rt.alloc(), problem, starts, List::from_vec(parts))?;
+    is_alone(rt, &made.rest, &root);
+    assert!(rt; made.found.is_empty());
+    assert_eq!(rt; made.dropped, count as u64);
+    Ok(())
+}
+
+#[test]
 fn assembled_of_no_region(rt: HostRuntime) -> Result<(), Fail> {
     let problem = open(rt.alloc(), LASTING)?;
-    let starts = root_alone(rt.alloc(), &problem)?;
-    let made = assemble(rt.alloc(), &problem, starts, List::new(rt.alloc()))?;
-    let root = fitting_root(rt.alloc(), &problem)?;
-    is_alone(&rt, &made.rest, &root);
-    assert!(rt; made.found.is_empty());
-    assert_eq!(rt; made.dropped, 0);
-    Ok(())
+    leaves_the_root(&rt, &problem, Vec::new(rt.alloc()))
+}
+
+/// Asserts that no region of the second problem is used for the first.
+fn drops_others<'p>(
+    rt: &(impl Abort + AllocGlobal),
+    problem: &'p Problem,
+    other: &'p Problem,
+) -> Result<(), Fail> {
+    let parts = parts_of(rt.alloc(), other)?;
+    assert!(rt; !parts.is_empty());
+    leaves_the_root(rt, problem, parts)
+}
+
+#[test]
+fn assembled_of_regions_of_another_problem(rt: HostRuntime) -> Result<(), Fail> {
+    let problem = open(rt.alloc(), LASTING)?;
+    let renamed = open(rt.alloc(), RENAMED)?;
+    drops_others(&rt, &problem, &renamed)
 }
 
 /// A run, over a count of its own.
@@ -203,18 +309,28 @@ fn halves(alloc: Global, problem: &Problem) -> Result<Branches, AllocError>
     Ok(part.into_parts().given)
 }
 
-/// What is kept stays, though it is no model, and stands in its place.
+/// Asserts that a run from the halves of the root finds the models beside what is kept, which stays, though it is no model.
+fn runs_beside_kept(rt: &(impl Abort + AllocGlobal), problem: &Problem) -> Result<(), Fail> {
+    let starts = halves(rt.alloc(), problem)?;
+    assert_eq!(rt; starts.len(), 2);
+    let mut kept = Vec::new(rt.alloc());
+    kept.push(read_table(rt, &problem.spec, "p: 0 1 0")?)?;
+    let outcome = run(rt.alloc(), problem, List::from_vec(kept), starts)?;
+    are(rt, &outcome.found, WITH_KEPT.as_slice());
+    assert!(rt; outcome.rest.is_empty());
+    assert!(rt; outcome.stopped == Stopped::No);
+    Ok(())
+}
+
 #[test]
 fn a_run_from_two_starts(rt: HostRuntime) -> Result<(), Fail> {
     let problem = open(rt.alloc(), LASTING)?;
-    let starts = halves(rt.alloc(), &problem)?;
-    assert_eq!(rt; starts.len(), 2);
-    let mut kept = Vec::new(rt.alloc());
-    kept.push(read_table(&rt, &problem.spec, "p: 0 1 0")?)?;
-    let outcome = run(rt.alloc(), &problem, List::from_vec(kept), starts)?;
-    are(&rt, &outcome.found, WITH_KEPT.as_slice());
-    assert!(rt; outcome.rest.is_empty());
-    assert!(rt; outcome.stopped == Stopped::No);
+    runs_beside_kept(&rt, &problem)
+}
+
+fn all_models_are(rt: &(impl Abort + AllocGlobal), problem: &Problem) -> Result<(), Fail> {
+    let found = all_models(rt.alloc(), problem)?;
+    are(rt, &found, MODELS.as_slice());
     Ok(())
 }
 
@@ -222,7 +338,5 @@ fn a_run_from_two_starts(rt: HostRuntime) -> Result<(), Fail> {
 fn all_models_of_a_problem(rt: HostRuntime) -> Result<(), Fail> {
     root_gives_all_models();
     let problem = open(rt.alloc(), LASTING)?;
-    let found = all_models(rt.alloc(), &problem)?;
-    are(&rt, &found, MODELS.as_slice());
-    Ok(())
+    all_models_are(&rt, &problem)
 }

@@ -440,8 +440,12 @@ const ENDS: [Row; 11] = [
 /// Asserts what stands at the end of a path, and what a step makes of it.
 fn check_row(rt: &(impl Abort + AllocGlobal), row: Row) -> Result<(), Fail> {
     let problem = problem_of(rt.alloc(), row.spec.as_bytes(), row.given.as_bytes())?;
-    let branch = at_end(rt, &problem, row.path.as_bytes())?;
-    check_step(rt, &problem, branch, row)
+    check_path(rt, &problem, row)
+}
+
+fn check_path(rt: &(impl Abort + AllocGlobal), problem: &Problem, row: Row) -> Result<(), Fail> {
+    let branch = at_end(rt, problem, row.path.as_bytes())?;
+    check_step(rt, problem, branch, row)
 }
 
 fn check_step(
