@@ -1,3 +1,4 @@
+//! Names, which are exactly their bytes.
 ghost use Rattle.std.specs.Prelude.{◌≡◌, IfOk, string_bytes};
 
 use std::alloc::{AllocError, Global};

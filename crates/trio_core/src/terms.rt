@@ -13,7 +13,7 @@ use crate::kleene::{plus, signed, sole_member, times};
 use crate::nodes::{Core, Known};
 use trio_types::{SignedTerm, Term};
 
-/// What is known of the value of a term at an instant: those without parts are looked at here, so that a caller can take this in.
+/// The same as `term_value`, but terms without parts are answered here, with no recursive call.
 #[inline]
 pub(crate) fn quick_value(under: &Interpretation<'_>, term: &Term, instant: u32) -> Known<i64>
     requires sets_fit { AreSets (world_of_core under.now.core.now) under.now.doms.now }

@@ -11,8 +11,6 @@ mod lookup;
 mod ranges;
 mod reading;
 mod sense;
-#[cfg(test)]
-mod tests;
 mod world;
 
 pub use fault::SpecFault;

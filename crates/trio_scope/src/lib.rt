@@ -5,8 +5,6 @@ mod meaning;
 mod names;
 mod place;
 mod scope;
-#[cfg(test)]
-mod tests;
 mod twice;
 mod unknown;
 mod walk;

@@ -53,6 +53,27 @@ fn names_used_before_they_are_declared_of_formulas(rt: HostRuntime) -> Result<()
     check_formulas(&rt, &NAMES_USED_BEFORE_THEY_ARE_DECLARED_OF_FORMULAS)
 }
 
+/// Texts whose first fault each phase finds, and two that have none, so that the empty history is refused.
+const ONE_OF_EACH_PHASE: [&str; 12] = [
+    "time 1; domain d = {r}; item p(d) : bool; axiom a : all x : d (p(x)) & p(r); ~  ~ 4 refused history missing p(r)\n",
+    "time 1; axiom a : q & p & r; ~  ~ 4 refused spec unknown 6\n",
+    "time 1; axiom a : b; axiom b : true; ~  ~ 4 refused spec unknown 6\n",
+    "time 1; item p : bool; item q : bool; item p : bool; item q : bool; ~  ~ 4 refused spec twice 14\n",
+    "time 1; item x : bool; axiom a : ex x : bool (x); ~  ~ 4 refused spec twice 12\n",
+    "time 3; domain n = -1..2; domain c = {r, s}; item p : bool; input q(c, n) : bool; item x : n; axiom a at 2 : all y : c (all z : n (Until(q(y, z + 2 * 1 - 3) -> x < 2, [p]))); goal g : !p = true; ~  ~ 4 refused history missing p\n",
+    "time 1; # ~  ~ 4 refused spec lex 8\n",
+    "time 1; axiom a : (p; ~  ~ 4 refused spec syntax 8\n",
+    "time 1; axiom a : p; ~  ~ 4 refused spec unknown 6\n",
+    "time 1; item p : bool; axiom p : 1; ~  ~ 4 refused spec twice 9\n",
+    "time 1; domain c = {r}; domain e = {s}; axiom a at 1 : r = s; ~  ~ 4 refused spec kind 23\n",
+    "time 1; axiom a at 1 : true; ~  ~ 4 refused spec range 6\n",
+];
+
+#[test]
+fn one_of_each_phase(rt: HostRuntime) -> Result<(), Fail> {
+    check_all(&rt, &ONE_OF_EACH_PHASE)
+}
+
 const NAMES_DECLARED_TWICE: [&str; 19] = [
     "time 1; item p : bool; item p : bool; ~  ~ 4 refused spec twice 9\n",
     "time 1; goal G : all b : bool (b); axiom b : true; ~  ~ 4 refused spec twice 7\n",
