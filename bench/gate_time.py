@@ -3,8 +3,9 @@
 
     bench/gate_time.py COMMAND..
 
-Runs the command (`rt ci --anew`, say) and looks at the prover's processes below it once a second until it ends. A line has a crate, minutes of
-its proof, of its tests' proof, of its edits, the sum, lines of its source, definitions and proofs, and minutes per 1,000 of these.
+Runs the command (`rt ci --anew`, say) and looks at the prover's processes below it once a second until it ends, so that up to a second of
+each process is missed; other programs do not count. A line has a crate, minutes of its proof, of its tests' proof, of its edits, the sum,
+lines of its source, definitions and proofs, and minutes per 1,000 of these.
 """
 import collections
 import os
@@ -66,7 +67,9 @@ def measured(command):
         found = processes()
         for key in below(found, child.pid):
             _, seconds, words = found[key]
-            kinds.setdefault(key, kind_of(key, words))
+            # a process that has not yet begun its own program is looked at again
+            if kinds.get(key) is None:
+                kinds[key] = kind_of(key, words)
             spent[key] = seconds
         time.sleep(1)
     sums = collections.defaultdict(float)
