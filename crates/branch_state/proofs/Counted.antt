@@ -9,13 +9,13 @@ use Rattle.trio_core.specs.declared.nodes.Node.TheVariants as node
 use Rattle.trio_core.specs.Core.{numbers}
 use Rattle.trio_core.proofs.Flat.{row_at, row_before}
 use Rattle.trio_base.specs.declared.operators.Rel.{Rel}
-use Rattle.branch_state.specs.Weight.{part_count, node_count, counts_of, count_of_option, core_count}
+use Rattle.branch_state.specs.Weight.{part_count, node_count, node_counts, count_of_option, core_count}
 
-count_at : (nodes : List Node) (a from : ℕ) (n : Node) → slice_get nodes a ≡ Some n → core_count nodes a from ≡ node_count (counts_of (take a nodes)) from n
+count_at : (nodes : List Node) (a from : ℕ) (n : Node) → slice_get nodes a ≡ Some n → core_count nodes a from ≡ node_count (node_counts (take a nodes)) from n
 unfolding core_count
-count_at nodes a from n at = ap (count_of_option (counts_of (take a nodes)) from) at
+count_at nodes a from n at = ap (count_of_option (node_counts (take a nodes)) from) at
 
-count_before : (nodes : List Node) (part a : ℕ) → part < a → a < length nodes → part_count (counts_of (take a nodes)) part ≡ core_count nodes part 0
+count_before : (nodes : List Node) (part a : ℕ) → part < a → a < length nodes → part_count (node_counts (take a nodes)) part ≡ core_count nodes part 0
 count_before nodes part a less inside =
     let n = get_within nodes part (omega (arith, less, inside)) in
     row_before (λ counts m. node_count counts 0 m) 1 nodes part a less inside
@@ -57,7 +57,7 @@ pub count_some : (nodes : List Node) (a from : ℕ) → 1 ≤ core_count nodes a
 unfolding core_count
 count_some nodes a from = of_option (slice_get nodes a)
   where
-    of_option : (o : Option Node) → 1 ≤ count_of_option (counts_of (take a nodes)) from o
+    of_option : (o : Option Node) → 1 ≤ count_of_option (node_counts (take a nodes)) from o
     of_option None = omega arith
     of_option (Some (node.Atom r x y)) = omega arith
     of_option (Some (node.Not b)) = omega arith

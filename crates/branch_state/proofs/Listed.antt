@@ -9,7 +9,7 @@ use Rattle.std.proofs.lemmas.Bool.{and_parts, and_from, false≢true, ltb-true, 
 use Rattle.std.proofs.lemmas.List.Elements.{All-nil, All-cons, All-map, All-weaker, All-contains}
 use Rattle.trio_types.specs.World.{World}
 use Rattle.trio_types.specs.Cells.{Cell, IsTable, cells_of, cell_size}
-use Rattle.branch_state.specs.Models.{lists_below, all_tables}
+use Rattle.trio_types.specs.Tables.{all_tables, lists_below}
 use Rattle.branch_state.proofs.Contained.{contains_here, contains_map, contains_flat, contains_range, all_range, all_flat}
 
 -- there is an index for each size, below it

@@ -10,7 +10,8 @@ use Rattle.trio_types.specs.Cells.{cells_of, cell_size}
 use Rattle.trio_types.specs.Verdict.{is_true_in}
 use Rattle.history_table.specs.Fitting.{extends}
 use Rattle.branch_state.specs.Posed.{Posed, world_of_problem}
-use Rattle.branch_state.specs.Models.{all_tables, is_model, models, IsModel}
+use Rattle.branch_state.specs.Models.{is_model, models, IsModel}
+use Rattle.trio_types.specs.Tables.{all_tables}
 use Rattle.branch_state.proofs.Contained.{contains_filter, filter_contains}
 use Rattle.branch_state.proofs.Listed.{tables_are_all, lists_sorted}
 

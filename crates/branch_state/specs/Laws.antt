@@ -13,13 +13,13 @@ abbrev pub ModelsLaw : Type 0
 ModelsLaw = (p : Posed) (table : List ℕ) → Contains (models p) table ↔ IsModel p table
 
 -- each stands before those that are greater in the order of lists of indexes, so each stands once
-abbrev pub OrderLaw : Type 0
-OrderLaw = (p : Posed) → IsStrictlySortedBy (slice_cmp nat_cmp) (models p)
+abbrev pub ModelsOrderLaw : Type 0
+ModelsOrderLaw = (p : Posed) → IsStrictlySortedBy (slice_cmp nat_cmp) (models p)
 
 -- the root fits and represents the models
 abbrev pub RootLaw : Type 0
 RootLaw = (p : Posed) → IsPosed p → Fits p (root_branch p) × (reps p (root_branch p) ≡ models p)
 
 -- the branch of a model's single sets fits and represents that model alone
-abbrev pub SingleLaw : Type 0
-SingleLaw = (p : Posed) → IsPosed p → (table : List ℕ) → IsModel p table → Fits p (single_branch table) × (reps p (single_branch table) ≡ table ∷ [])
+abbrev pub SingleBranchLaw : Type 0
+SingleBranchLaw = (p : Posed) → IsPosed p → (table : List ℕ) → IsModel p table → Fits p (single_branch table) × (reps p (single_branch table) ≡ table ∷ [])

@@ -25,8 +25,8 @@ node_count counts from (node.Exists low high a) = (length (numbers low high) - f
 node_count counts from (node.Dist a x) = part_count counts a + 1
 
 -- the counts of nodes in a row
-abbrev pub counts_of : List Node → List ℕ
-counts_of = in_row (λ counts n. node_count counts 0 n) []
+abbrev pub node_counts : List Node → List ℕ
+node_counts = in_row (λ counts n. node_count counts 0 n) []
 
 abbrev pub count_of_option : List ℕ → ℕ → Option Node → ℕ
 count_of_option counts from None = 1
@@ -34,7 +34,7 @@ count_of_option counts from (Some n) = node_count counts from n
 
 -- the count of the node of this number, taken from an index
 unfoldable pub core_count : List Node → ℕ → ℕ → ℕ
-core_count nodes a from = count_of_option (counts_of (take a nodes)) from (slice_get nodes a)
+core_count nodes a from = count_of_option (node_counts (take a nodes)) from (slice_get nodes a)
 
 abbrev pub want_weight : Posed → Want → ℕ
 want_weight p want = core_count p.core.nodes want.node want.from

@@ -1,10 +1,10 @@
 //! The laws of models and branches, each as the contract of a function that does nothing.
-ghost use Rattle.branch_state.specs.Laws.{ModelsLaw, OrderLaw, RootLaw, SingleLaw};
+ghost use Rattle.branch_state.specs.Laws.{ModelsLaw, ModelsOrderLaw, RootLaw, SingleBranchLaw};
 
 /// The models are the tables that extend the given history and make the specification true. They are in order, each once.
 pub fn models_are_the_true_extensions()
     ensures all { ModelsLaw }
-    ensures once { OrderLaw }
+    ensures once { ModelsOrderLaw }
 {}
 
 /// The root fits, and represents the models.
@@ -14,5 +14,5 @@ pub fn root_represents_the_models()
 
 /// The branch of a model's single sets fits, and represents that model alone.
 pub fn single_sets_represent_one_model()
-    ensures { SingleLaw }
+    ensures { SingleBranchLaw }
 {}

@@ -22,7 +22,7 @@ use Rattle.trio_core.proofs.NodesFit.{core_formed}
 use Rattle.trio_core.proofs.Looks.{zip_at}
 use Rattle.trio_core.proofs.Sole.{set_of_cell, member_in}
 use Rattle.decompose.specs.Reads.{members_of, members_at, is_undecided}
-use Rattle.decompose.specs.Rule.{least, least_table, least_of_cell}
+use Rattle.decompose.specs.Rule.{least_member, least_table, least_of_cell}
 use Rattle.branch_state.specs.Branches.{single_set}
 use Rattle.decompose.proofs.Bits.{bit_below}
 
@@ -104,9 +104,9 @@ cell_small core n c at =
     omega (arith, size_from_item w c item.0 item.1, small_size p (core_formed core) item.0.value inside)
 
 least_at_in : (w : World) (cells : List Cell) (sets : List ℕ) (n set : ℕ) (c : Cell) → slice_get cells n ≡ Some c → slice_get sets n ≡ Some set →
-    slice_get (map (λ q. least (cell_size w q.0) q.1) (zip cells sets)) n ≡ Some (least (cell_size w c) set)
+    slice_get (map (λ q. least_member (cell_size w q.0) q.1) (zip cells sets)) n ≡ Some (least_member (cell_size w c) set)
 least_at_in w cells sets n set c cell_at set_at =
-    slice_get-map (λ q. least (cell_size w q.0) q.1) (zip cells sets) n ∙ ap (option_map (λ q. least (cell_size w q.0) q.1)) (zip_at cells sets n c set cell_at set_at)
+    slice_get-map (λ q. least_member (cell_size w q.0) q.1) (zip cells sets) n ∙ ap (option_map (λ q. least_member (cell_size w q.0) q.1)) (zip_at cells sets n c set cell_at set_at)
 
 pub least_at : (w : World) (sets : List ℕ) (n set low : ℕ) → AreSets w sets → slice_get sets n ≡ Some set → ((size : ℕ) → is_set size set ≡ true → slice_get (members size set) 0 ≡ Some low) →
     slice_get (least_table w sets) n ≡ Some low
@@ -121,7 +121,7 @@ zip_long (c ∷ cells) [] same = absurd (omega (arith, same))
 zip_long (c ∷ cells) (s ∷ sets) same = let e : length sets ≡ length cells = omega (arith, same) in ap suc (zip_long cells sets e)
 
 pub least_long : (w : World) (sets : List ℕ) → AreSets w sets → length (least_table w sets) ≡ length sets
-least_long w sets are = length-map (zip (cells_of w) sets) (λ q. least (cell_size w q.0) q.1) ∙ zip_long (cells_of w) sets are.whole
+least_long w sets are = length-map (zip (cells_of w) sets) (λ q. least_member (cell_size w q.0) q.1) ∙ zip_long (cells_of w) sets are.whole
 
 -- a member is small, and the set of it alone is no greater than the set
 pub low_small : (core : Core) (sets : List ℕ) (n set low : ℕ) → AreSets (world_of_core core) sets → slice_get sets n ≡ Some set →

@@ -12,21 +12,21 @@ use Rattle.trio_core.proofs.Sole.{member_in}
 use Rattle.history_table.specs.Fitting.{is_given, extends}
 use Rattle.branch_state.specs.Branches.{root_set, lies_in}
 use Rattle.branch_state.proofs.SetsFit.{only_single}
-use Rattle.decompose.specs.Rule.{least}
+use Rattle.decompose.specs.Rule.{least_member}
 
 -- a set with one member
 record Single (size set : ℕ) : Type 0 where
-  has : set_has set (least size set) ≡ true
-  below : least size set < size
-  alone : (u : ℕ) → u < size → set_has set u ≡ true → u ≡ least size set
-  given : (g : Option ℕ) → is_within size set (root_set size g) ≡ true → is_given g (least size set) ≡ true
+  has : set_has set (least_member size set) ≡ true
+  below : least_member size set < size
+  alone : (u : ℕ) → u < size → set_has set u ≡ true → u ≡ least_member size set
+  given : (g : Option ℕ) → is_within size set (root_set size g) ≡ true → is_given g (least_member size set) ≡ true
 
 single : (size set : ℕ) → (length (members size set) == 1) ≡ true → Single size set
 single size set one = record {
   has = inside.0;
   below = inside.1;
   alone = λ u below has. let m = member_at size set u below has in just m.0 u (sym (ap (λ ms. slice_get ms m.0) whole) ∙ m.1);
-  given = λ g within. known g (each_of (set_has (root_set size g)) (members size set) within 0 (least size set) first);
+  given = λ g within. known g (each_of (set_has (root_set size g)) (members size set) within 0 (least_member size set) first);
 }
   where
     head_alone : (ms : List ℕ) → (length ms == 1) ≡ true → ms ≡ slice_index_or ms 0 0 ∷ []
@@ -34,26 +34,26 @@ single size set one = record {
     head_alone (v ∷ []) is = refl
     head_alone (v ∷ u ∷ ms) is = absurd (omega (arith, eqb-true (length (v ∷ u ∷ ms)) 1 is))
 
-    whole : members size set ≡ least size set ∷ []
+    whole : members size set ≡ least_member size set ∷ []
     whole = head_alone (members size set) one
 
-    first : slice_get (members size set) 0 ≡ Some (least size set)
+    first : slice_get (members size set) 0 ≡ Some (least_member size set)
     first = ap (λ ms. slice_get ms 0) whole
 
-    inside : (set_has set (least size set) ≡ true) × (least size set < size)
-    inside = member_in size set 0 (least size set) first
+    inside : (set_has set (least_member size set) ≡ true) × (least_member size set < size)
+    inside = member_in size set 0 (least_member size set) first
 
-    just : (j u : ℕ) → slice_get (least size set ∷ []) j ≡ Some u → u ≡ least size set
-    just zero u at = sym (same_Some (least size set) u at)
+    just : (j u : ℕ) → slice_get (least_member size set ∷ []) j ≡ Some u → u ≡ least_member size set
+    just zero u at = sym (same_Some (least_member size set) u at)
     just (suc j) u at = absurd (none-some u at)
 
-    known : (g : Option ℕ) → set_has (root_set size g) (least size set) ≡ true → is_given g (least size set) ≡ true
+    known : (g : Option ℕ) → set_has (root_set size g) (least_member size set) ≡ true → is_given g (least_member size set) ≡ true
     known None has = refl
-    known (Some k) has = eq-eqb k (least size set) (sym (only_single k (least size set) has))
+    known (Some k) has = eq-eqb k (least_member size set) (sym (only_single k (least_member size set) has))
 
 -- the table of the only members
 abbrev pub leasts : World → List Cell → List ℕ → List ℕ
-leasts w cells sets = map (λ q. least (cell_size w q.0) q.1) (zip cells sets)
+leasts w cells sets = map (λ q. least_member (cell_size w q.0) q.1) (zip cells sets)
 
 abbrev pub are_below : World → List Cell → List ℕ → Bool
 are_below w cells table = list_all (λ q. nat_lt q.1 (cell_size w q.0)) (zip cells table)
@@ -86,9 +86,9 @@ only_table w (c ∷ cells) (g ∷ given) (s ∷ sets) gl sl one within =
     let rest = only_table w cells given sets (omega (arith, gl)) (omega (arith, sl)) ones.1 withins.1 in
     record {
       long = omega (arith, rest.long);
-      below = and_from (nat_lt (least size s) size) (are_below w cells (leasts w cells sets)) (lt-ltb (least size s) size here.below) rest.below;
-      lies = and_from (set_has s (least size s)) (lies_in sets (leasts w cells sets)) here.has rest.lies;
-      extended = and_from (is_given g (least size s)) (extends given (leasts w cells sets)) (here.given g withins.0) rest.extended;
+      below = and_from (nat_lt (least_member size s) size) (are_below w cells (leasts w cells sets)) (lt-ltb (least_member size s) size here.below) rest.below;
+      lies = and_from (set_has s (least_member size s)) (lies_in sets (leasts w cells sets)) here.has rest.lies;
+      extended = and_from (is_given g (least_member size s)) (extends given (leasts w cells sets)) (here.given g withins.0) rest.extended;
       alone = λ other long below lies. with_head here rest other long below lies;
     }
   where

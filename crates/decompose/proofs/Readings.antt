@@ -16,7 +16,7 @@ use Rattle.trio_types.specs.Values.{read_cell}
 use Rattle.trio_types.proofs.CellOrder.{at_range, entry_at}
 use Rattle.trio_types.proofs.Lists.{get_within}
 use Rattle.trio_core.specs.Three.{known_at, known_all}
-use Rattle.trio_core.specs.Fits.{TermFits, IsCellRead}
+use Rattle.trio_core.specs.Fits.{NodeTermFits, IsCellRead}
 use Rattle.trio_core.proofs.TermCases.{term_of}
 use Rattle.trio_core.proofs.TermsFit.{arg_values, args_known}
 use Rattle.decompose.specs.Reads.{Reading, is_undecided, cell_number, cells_of_read, reading}
@@ -63,7 +63,7 @@ number_is w n c at =
     cond-true _ (Some _) None (lt-ltb _ many place.inside) ∙ ap Some (omega (arith, here.0))
 
 -- the cell that an item is read from, where there is one
-pub cells_of_item : (w : World) (sets : List ℕ) (e : List ℤ) (i number : ℕ) (args : List Term) → TermFits w (term.Read number args) e → (o : Option ℕ) →
+pub cells_of_item : (w : World) (sets : List ℕ) (e : List ℤ) (i number : ℕ) (args : List Term) → NodeTermFits w (term.Read number args) e → (o : Option ℕ) →
     IsCellRead w number (arg_values w e (known_at w sets) i args) i o → cells_read w sets e i (term.Read number args) ≡ option_to_list o
 cells_of_item w sets e i number args fits o told =
     ap (λ (r : Reading). r.cells) (at_form w e (known_at w sets) i (open_term.Read number args) (term.rolls-Read number args))

@@ -102,11 +102,11 @@ unfoldable pub fate : Posed → List ℕ → Want → Fate
 fate p sets want = fate_by (want_truth3 p sets want) want.sign (row (world_of_core p.core) sets want (slice_get p.core.nodes want.node))
 
 -- the least member of a set of indexes below a size, and those of all cells
-abbrev pub least : ℕ → ℕ → ℕ
-least size set = slice_index_or (members size set) 0 0
+abbrev pub least_member : ℕ → ℕ → ℕ
+least_member size set = slice_index_or (members size set) 0 0
 
 abbrev pub least_table : World → List ℕ → List ℕ
-least_table world sets = map (λ q. least (cell_size world q.0) q.1) (zip (cells_of world) sets)
+least_table world sets = map (λ q. least_member (cell_size world q.0) q.1) (zip (cells_of world) sets)
 
 -- a cell's set is its least value alone, or all its other values
 abbrev pub least_of_cell : World → List ℕ → ℕ → ℕ

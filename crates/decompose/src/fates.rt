@@ -6,7 +6,7 @@ ghost use Rattle.trio_core.specs.declared.nodes.Three.TheVariants as three;
 ghost use Rattle.trio_core.specs.Sets.{AreSets};
 ghost use Rattle.trio_core.specs.Three.{known_at, value3};
 ghost use Rattle.trio_core.specs.Stands.{world_of_core};
-ghost use Rattle.trio_core.specs.Fits.{TermFits};
+ghost use Rattle.trio_core.specs.Fits.{NodeTermFits};
 ghost use Rattle.branch_state.specs.Branches.{WantFits};
 ghost use Rattle.decompose.specs.Rule.{Refuted, Becomes, Parts, part, part_at, body, later, row, dist_row, fate, fate_by};
 ghost use Rattle.decompose.specs.Told.{fate_told};
@@ -136,7 +136,7 @@ fn at_distance(
     distance: &Term,
 ) -> Result<Fate, AllocError>
     requires sets_fit { AreSets (world_of_core under.core.now) under.doms.now }
-    requires term_fits { TermFits (world_of_core under.core.now) distance.now under.values.now }
+    requires term_fits { NodeTermFits (world_of_core under.core.now) distance.now under.values.now }
     requires instant_in { want.now.now < under.core.now.instants }
     requires known { (z : ℤ) × (value3 (world_of_core under.core.now) distance.now under.values.now (known_at (world_of_core under.core.now) under.doms.now) want.now.now ≡ One z) }
     ensures { IfOk result (λ told. fate_told told

@@ -4,7 +4,7 @@ ghost use Rattle.trio_types.specs.declared.formula.Term.TheVariants as term_of;
 ghost use Rattle.trio_core.specs.Sets.{AreSets};
 ghost use Rattle.trio_core.specs.Three.{known_at};
 ghost use Rattle.trio_core.specs.Stands.{world_of_core};
-ghost use Rattle.trio_core.specs.Fits.{TermFits};
+ghost use Rattle.trio_core.specs.Fits.{NodeTermFits};
 ghost use Rattle.decompose.specs.Reads.{first_undecided, atom_cells, reading};
 
 use crate::values::is_undecided;
@@ -19,8 +19,8 @@ pub(crate) fn undecided_of_atom(
     instant: u32,
 ) -> Option<u32>
     requires sets_fit { AreSets (world_of_core under.core.now) under.doms.now }
-    requires left_fits { TermFits (world_of_core under.core.now) left.now under.values.now }
-    requires right_fits { TermFits (world_of_core under.core.now) right.now under.values.now }
+    requires left_fits { NodeTermFits (world_of_core under.core.now) left.now under.values.now }
+    requires right_fits { NodeTermFits (world_of_core under.core.now) right.now under.values.now }
     requires instant_in { instant < under.core.now.instants }
     ensures { result
         ≡ first_undecided (world_of_core under.entry.core.now) under.entry.doms.now (atom_cells (world_of_core under.entry.core.now) left.now right.now under.entry.values.now under.entry.doms.now instant) }
@@ -35,7 +35,7 @@ pub(crate) fn undecided_of_atom(
 #[cycle(undecided)]
 fn undecided_of_term(under: Interpretation<'_>, term: &Term, instant: u32) -> Option<u32>
     requires sets_fit { AreSets (world_of_core under.core.now) under.doms.now }
-    requires term_fits { TermFits (world_of_core under.core.now) term.now under.values.now }
+    requires term_fits { NodeTermFits (world_of_core under.core.now) term.now under.values.now }
     requires instant_in { instant < under.core.now.instants }
     ensures { result
         ≡ first_undecided (world_of_core under.entry.core.now) under.entry.doms.now (reading (world_of_core under.entry.core.now) term.now under.entry.values.now (known_at (world_of_core under.entry.core.now) under.entry.doms.now) instant).cells }
@@ -61,7 +61,7 @@ fn undecided_of_term(under: Interpretation<'_>, term: &Term, instant: u32) -> Op
 #[cycle(undecided)]
 fn undecided_of_parts(under: Interpretation<'_>, parts: &[SignedTerm], instant: u32) -> Option<u32>
     requires sets_fit { AreSets (world_of_core under.core.now) under.doms.now }
-    requires term_fits { TermFits (world_of_core under.core.now) (term_of.Sum parts.now) under.values.now }
+    requires term_fits { NodeTermFits (world_of_core under.core.now) (term_of.Sum parts.now) under.values.now }
     requires instant_in { instant < under.core.now.instants }
     ensures { result
         ≡ first_undecided (world_of_core under.entry.core.now) under.entry.doms.now (reading (world_of_core under.entry.core.now) (term_of.Sum parts.now) under.entry.values.now (known_at (world_of_core under.entry.core.now) under.entry.doms.now) instant).cells }

@@ -33,8 +33,8 @@ use Rattle.trio_core.proofs.Flat.{core_truth_kept}
 use Rattle.derived_ops.specs.Shape.{before_last, nodes_of}
 use Rattle.derived_ops.specs.declared.writer.Writer.{Writer}
 use Rattle.derived_ops.specs.Rewriting.{written}
-use Rattle.derived_ops.specs.Adding.{Adds}
-use Rattle.derived_ops.specs.Rewritten.{shape_of, nodes_of_axioms, roots_of_axioms, IsRewriting}
+use Rattle.derived_ops.specs.Adding.{AddsShape}
+use Rattle.derived_ops.specs.Rewritten.{core_shape, nodes_of_axioms, roots_of_axioms, IsRewriting}
 use Rattle.derived_ops.proofs.Told.{shape_truth, length-nodes_of, core_told}
 use Rattle.derived_ops.proofs.Keeps.{written_keeps}
 use Rattle.derived_ops.proofs.Rounds.{rounds_of, rounds_of_axioms, length-rounds_of, all_rounded}
@@ -43,49 +43,49 @@ use Rattle.derived_ops.proofs.WrittenFits.{Grounded, shape_fits}
 
 -- one axiom more
 pub nodes_more : (w : World) (n : ℕ) (axioms : List Axiom) (a : Axiom) →
-    nodes_of_axioms w n (axioms ++ a ∷ []) ≡ nodes_of_axioms w n axioms ++ nodes_of (shape_of w a.formula) (n + length (nodes_of_axioms w n axioms))
-nodes_more w n [] a = let same : n ≡ n + 0 = omega arith in append-nil (nodes_of (shape_of w a.formula) n) ∙ ap (nodes_of (shape_of w a.formula)) same
+    nodes_of_axioms w n (axioms ++ a ∷ []) ≡ nodes_of_axioms w n axioms ++ nodes_of (core_shape w a.formula) (n + length (nodes_of_axioms w n axioms))
+nodes_more w n [] a = let same : n ≡ n + 0 = omega arith in append-nil (nodes_of (core_shape w a.formula) n) ∙ ap (nodes_of (core_shape w a.formula)) same
 nodes_more w n (x ∷ axioms) a =
-    let s = shape_of w x.formula in
+    let s = core_shape w x.formula in
     let m = n + before_last s + 1 in
     let rest = nodes_of_axioms w m axioms in
     let same : m + length rest ≡ n + length (nodes_of s n ++ rest) = omega (arith, length-append (nodes_of s n) rest, length-nodes_of s n) in
-    ap (λ ns. nodes_of s n ++ ns) (nodes_more w m axioms a ∙ ap (λ k. rest ++ nodes_of (shape_of w a.formula) k) same)
-    ∙ sym (append_assoc (nodes_of s n) rest (nodes_of (shape_of w a.formula) (n + length (nodes_of s n ++ rest))))
+    ap (λ ns. nodes_of s n ++ ns) (nodes_more w m axioms a ∙ ap (λ k. rest ++ nodes_of (core_shape w a.formula) k) same)
+    ∙ sym (append_assoc (nodes_of s n) rest (nodes_of (core_shape w a.formula) (n + length (nodes_of s n ++ rest))))
 
 pub roots_more : (w : World) (n : ℕ) (axioms : List Axiom) (a : Axiom) →
     roots_of_axioms w n (axioms ++ a ∷ [])
-    ≡ roots_of_axioms w n axioms ++ record { node = n + length (nodes_of_axioms w n axioms) + before_last (shape_of w a.formula); at = a.at } ∷ []
+    ≡ roots_of_axioms w n axioms ++ record { node = n + length (nodes_of_axioms w n axioms) + before_last (core_shape w a.formula); at = a.at } ∷ []
 roots_more w n [] a =
     let same : n ≡ n + 0 = omega arith in
-    ap (λ (k : ℕ). let r : Root = record { node = k + before_last (shape_of w a.formula); at = a.at } in r ∷ []) same
+    ap (λ (k : ℕ). let r : Root = record { node = k + before_last (core_shape w a.formula); at = a.at } in r ∷ []) same
 roots_more w n (x ∷ axioms) a =
-    let s = shape_of w x.formula in
+    let s = core_shape w x.formula in
     let m = n + before_last s + 1 in
     let rest = nodes_of_axioms w m axioms in
     let same : m + length rest ≡ n + length (nodes_of s n ++ rest) = omega (arith, length-append (nodes_of s n) rest, length-nodes_of s n) in
     ap (λ rs. record { node = n + before_last s; at = x.at } ∷ rs)
     (roots_more w m axioms a
-    ∙ ap (λ (k : ℕ). let r : Root = record { node = k + before_last (shape_of w a.formula); at = a.at } in roots_of_axioms w m axioms ++ r ∷ []) same)
+    ∙ ap (λ (k : ℕ). let r : Root = record { node = k + before_last (core_shape w a.formula); at = a.at } in roots_of_axioms w m axioms ++ r ∷ []) same)
 
 -- one step over the axioms
 pub step_nodes : (w : World) (axioms : List Axiom) (i : ℕ) (a : Axiom) (old mid : Writer) (node : ℕ) → i < length axioms → a ≡ get_or axioms i a →
-    old.nodes.items ≡ nodes_of_axioms w 0 (take i axioms) → old.levels.items ≡ [] → Adds (written w a.formula 0 old.levels.items) old mid node →
+    old.nodes.items ≡ nodes_of_axioms w 0 (take i axioms) → old.levels.items ≡ [] → AddsShape (written w a.formula 0 old.levels.items) old mid node →
     mid.nodes.items ≡ nodes_of_axioms w 0 (take (i + 1) axioms)
 step_nodes w axioms i a old mid node inside is nodes levels adds =
     let xs = take i axioms in
     let all = nodes_of_axioms w 0 xs in
     let same : length all ≡ 0 + length all = omega arith in
     adds.nodes ∙ ap (λ ls. old.nodes.items ++ nodes_of (written w a.formula 0 ls) (length old.nodes.items)) levels
-    ∙ ap (λ ns. ns ++ nodes_of (shape_of w a.formula) (length ns)) nodes ∙ ap (λ m. all ++ nodes_of (shape_of w a.formula) m) same
+    ∙ ap (λ ns. ns ++ nodes_of (core_shape w a.formula) (length ns)) nodes ∙ ap (λ m. all ++ nodes_of (core_shape w a.formula) m) same
     ∙ sym (nodes_more w 0 xs a) ∙ ap (λ a. nodes_of_axioms w 0 (xs ++ a ∷ [])) is ∙ ap (nodes_of_axioms w 0) (sym (take_more axioms i a inside))
 
 pub step_roots : (w : World) (axioms : List Axiom) (i : ℕ) (a : Axiom) (old mid : Writer) (node : ℕ) (roots : List Root) → i < length axioms → a ≡ get_or axioms i a →
-    old.nodes.items ≡ nodes_of_axioms w 0 (take i axioms) → old.levels.items ≡ [] → Adds (written w a.formula 0 old.levels.items) old mid node →
+    old.nodes.items ≡ nodes_of_axioms w 0 (take i axioms) → old.levels.items ≡ [] → AddsShape (written w a.formula 0 old.levels.items) old mid node →
     roots ≡ roots_of_axioms w 0 (take i axioms) → roots ++ record { node = node; at = a.at } ∷ [] ≡ roots_of_axioms w 0 (take (i + 1) axioms)
 step_roots w axioms i a old mid node roots inside is nodes levels adds so_far =
     let xs = take i axioms in
-    let place : node ≡ 0 + length (nodes_of_axioms w 0 xs) + before_last (shape_of w a.formula) =
+    let place : node ≡ 0 + length (nodes_of_axioms w 0 xs) + before_last (core_shape w a.formula) =
     omega (arith, adds.place, ap length nodes, ap (λ ls. before_last (written w a.formula 0 ls)) levels) in
     ap (λ rs. rs ++ record { node = node; at = a.at } ∷ []) so_far
     ∙ ap (λ (k : ℕ). let r : Root = record { node = k; at = a.at } in roots_of_axioms w 0 xs ++ r ∷ []) place
@@ -115,7 +115,7 @@ grounded p f = record {
   domains = domain_fits p f;
 }
 
-axiom_fits : (p : Parts) → Formed p → (k : ℕ) (a : Axiom) → slice_get p.axioms k ≡ Some a → ShapeFits (world_of_parts p) (shape_of (world_of_parts p) a.formula) []
+axiom_fits : (p : Parts) → Formed p → (k : ℕ) (a : Axiom) → slice_get p.axioms k ≡ Some a → ShapeFits (world_of_parts p) (core_shape (world_of_parts p) a.formula) []
 axiom_fits p f k a at =
     let w = world_of_parts p in
     let there = get_left p.axioms p.goals k a at in
@@ -131,10 +131,10 @@ axiom_fits p f k a at =
 
 -- each node and root of the axioms
 nodes_fit : (w : World) (rounds : List Ranges) (axioms : List Axiom) (n : ℕ) → Placed rounds n (rounds_of_axioms w axioms) →
-    ((k : ℕ) (a : Axiom) → slice_get axioms k ≡ Some a → ShapeFits w (shape_of w a.formula) []) → AllFit w rounds n (nodes_of_axioms w n axioms)
+    ((k : ℕ) (a : Axiom) → slice_get axioms k ≡ Some a → ShapeFits w (core_shape w a.formula) []) → AllFit w rounds n (nodes_of_axioms w n axioms)
 nodes_fit w rounds [] n placed fits = refl
 nodes_fit w rounds (a ∷ axioms) n placed fits =
-    let s = shape_of w a.formula in
+    let s = core_shape w a.formula in
     let m = n + before_last s + 1 in
     both_fit w rounds n m (nodes_of s n) (nodes_of_axioms w m axioms) (omega (arith, length-nodes_of s n))
     (all_fit w rounds s n [] (placed_left rounds n (rounds_of s []) (rounds_of_axioms w axioms) placed) (fits 0 a refl))
@@ -147,7 +147,7 @@ roots_fit : (w : World) (rounds : List Ranges) (total : ℕ) (axioms : List Axio
     list_all (λ (a : Axiom). instant_fits w.instants a.at) axioms ≡ true → list_all (root_by w total rounds) (roots_of_axioms w n axioms) ≡ true
 roots_fit w rounds total [] n placed enough inside = refl
 roots_fit w rounds total (a ∷ axioms) n placed enough inside =
-    let s = shape_of w a.formula in
+    let s = core_shape w a.formula in
     let at = n + before_last s in
     let m = at + 1 in
     let r : Root = record { node = at; at = a.at } in
@@ -183,13 +183,13 @@ core_is spec domains items nodes roots same_domains same_items same_nodes same_r
 -- each root has its axiom's truth
 record RootIs (w : World) (nodes : List Node) (root : Root) (a : Axiom) : Type 0 where
   at : root.at ≡ a.at
-  told : core_truth w nodes root.node ≡ shape_truth w (shape_of w a.formula)
+  told : core_truth w nodes root.node ≡ shape_truth w (core_shape w a.formula)
 
 each_root : (w : World) (axioms : List Axiom) (before : List Node) (n : ℕ) → n ≡ length before → (k : ℕ) (root : Root) (a : Axiom) →
     slice_get (roots_of_axioms w n axioms) k ≡ Some root → slice_get axioms k ≡ Some a → RootIs w (before ++ nodes_of_axioms w n axioms) root a
 each_root w [] before n is k root a rt ct = absurd (none-some a ct)
 each_root w (x ∷ axioms) before n is zero root a rt ct =
-    let s = shape_of w x.formula in
+    let s = core_shape w x.formula in
     let rest = nodes_of_axioms w (n + before_last s + 1) axioms in
     let r : Root = record { node = n + before_last s; at = x.at } in
     let front = before ++ nodes_of s n in
@@ -202,14 +202,14 @@ each_root w (x ∷ axioms) before n is zero root a rt ct =
     let of_root : RootIs w (before ++ (nodes_of s n ++ rest)) root x = subst (λ root. RootIs w (before ++ (nodes_of s n ++ rest)) root x) (same_Some r root rt) first in
     subst (λ a. RootIs w (before ++ (nodes_of s n ++ rest)) root a) (same_Some x a ct) of_root
 each_root w (x ∷ axioms) before n is (suc k) root a rt ct =
-    let s = shape_of w x.formula in
+    let s = core_shape w x.formula in
     let m = n + before_last s + 1 in
     subst (λ ns. RootIs w ns root a) (append_assoc before (nodes_of s n) (nodes_of_axioms w m axioms))
     (each_root w axioms (before ++ nodes_of s n) m (omega (arith, is, length-append before (nodes_of s n), length-nodes_of s n)) k root a rt ct)
 
 as_many_roots : (w : World) (axioms : List Axiom) (n : ℕ) → length (roots_of_axioms w n axioms) ≡ length axioms
 as_many_roots w [] n = refl
-as_many_roots w (x ∷ axioms) n = omega (arith, as_many_roots w axioms (n + before_last (shape_of w x.formula) + 1))
+as_many_roots w (x ∷ axioms) n = omega (arith, as_many_roots w axioms (n + before_last (core_shape w x.formula) + 1))
 
 pub stands : (core : Core) (spec : Spec) → core.instants ≡ spec.instants → core.domains ≡ spec.domains → core.items ≡ spec.items → IsRewriting core spec → StandsFor core spec
 stands core spec instants domains items rewriting = record {

@@ -9,7 +9,7 @@ use Rattle.trio_core.specs.declared.nodes.Node.{Node}
 use Rattle.trio_core.specs.declared.nodes.Node.TheVariants as node
 use Rattle.trio_core.specs.CoreShape.{Ranges, ranges_inside, has_part, ranges_by_parent, ranges_from}
 use Rattle.derived_ops.specs.Shape.{Shape, atom, no, both, either, exists, dist, equal, before_last, equal_nodes, nodes_of}
-use Rattle.derived_ops.specs.Rewritten.{shape_of, nodes_of_axioms}
+use Rattle.derived_ops.specs.Rewritten.{core_shape, nodes_of_axioms}
 use Rattle.derived_ops.proofs.Told.{length-nodes_of}
 
 -- those of a shape's nodes, where these stand round the shape
@@ -24,7 +24,7 @@ rounds_of (equal s u) rs = rounds_of s rs ++ rounds_of u rs ++ (rs ∷ rs ∷ rs
 
 abbrev pub rounds_of_axioms : World → List Axiom → List Ranges
 rounds_of_axioms w [] = []
-rounds_of_axioms w (a ∷ axioms) = rounds_of (shape_of w a.formula) [] ++ rounds_of_axioms w axioms
+rounds_of_axioms w (a ∷ axioms) = rounds_of (core_shape w a.formula) [] ++ rounds_of_axioms w axioms
 
 pub length-rounds_of : (s : Shape) (rs : Ranges) → length (rounds_of s rs) ≡ before_last s + 1
 length-rounds_of (atom r x y) rs = refl
@@ -238,13 +238,13 @@ rounded (equal s u) n at rs ms qs is behind own =
 later_axioms : (w : World) (axioms : List Axiom) (n a : ℕ) → a < n → list_any (has_part a) (nodes_of_axioms w n axioms) ≡ false
 later_axioms w [] n a less = refl
 later_axioms w (x ∷ axioms) n a less =
-    let s = shape_of w x.formula in
+    let s = core_shape w x.formula in
     none_append (has_part a) (nodes_of s n) (nodes_of_axioms w (n + before_last s + 1) axioms) (later_parts s n a less) (later_axioms w axioms (n + before_last s + 1) a (omega arith))
 
 pub all_rounded : (w : World) (axioms : List Axiom) (n : ℕ) → ranges_from n (nodes_of_axioms w n axioms) ≡ rounds_of_axioms w axioms
 all_rounded w [] n = refl
 all_rounded w (x ∷ axioms) n =
-    let s = shape_of w x.formula in
+    let s = core_shape w x.formula in
     let at = n + before_last s in
     rounded s n at [] (nodes_of_axioms w (at + 1) axioms) (rounds_of_axioms w axioms) refl (all_rounded w axioms (at + 1))
     (no_parent at (nodes_of_axioms w (at + 1) axioms) (rounds_of_axioms w axioms) (later_axioms w axioms (at + 1) at (omega arith)))

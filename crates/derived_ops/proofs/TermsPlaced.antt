@@ -15,7 +15,7 @@ use Rattle.trio_types.specs.declared.formula.Term.TheOpen.{Term-F, SignedTerm-F}
 use Rattle.trio_types.specs.declared.formula.Term.TheOpen as open_term
 use Rattle.trio_types.specs.declared.spec.DomainKind.TheVariants as kind
 use Rattle.trio_types.specs.World.{World}
-use Rattle.trio_types.specs.Kinds.{Gathered, gathered, is_right, has_kind, kind_of_constant, term_uses, args_of, argument_uses, in_role, part}
+use Rattle.trio_types.specs.Kinds.{Gathered, gathered, is_right, has_kind, kind_of_constant, term_uses, args_of, argument_uses, required, part}
 use Rattle.trio_types.specs.Bounds.{Bound, bounded, greatest, bound_of, most_of, term_bound, variable_bound, item_bound}
 use Rattle.trio_types.proofs.Lists.{all_left, all_right, get_left, get_right, get_split, get_within}
 use Rattle.trio_types.proofs.Domains.{count_of_values, integers_at, value_at_first}
@@ -143,7 +143,7 @@ module _ (w : World) (k : ℕ) (ls : Levels) (vs : List ℕ) (rs : Ranges) (plac
         let parts = map (λ p. gathered w vs (out-SignedTerm p).term) ps in
         ap (λ x. reaches w x (length rs) reads) (renamed-Sum ls ps) ∙ reaches-Sum w (map (part_of ls) ps) (length rs) reads
         ∙ parts_reached inside reads may ps each
-        (all_right is_right (map (λ (p : Gathered). in_role part p.kind) parts) (flat_map (λ (p : Gathered). p.uses inside) parts) (ap (list_all is_right) (sym uses) ∙ right));
+        (all_right is_right (map (λ (p : Gathered). required part p.kind) parts) (flat_map (λ (p : Gathered). p.uses inside) parts) (ap (list_all is_right) (sym uses) ∙ right));
     at_times = λ n x same inside reads may right.
         let uses = ap (λ (g : Gathered). g.uses inside) (gathered-Times w vs n x) in
         ap (λ x. reaches w x (length rs) reads) (renamed-Times ls n x) ∙ reaches-Times w n (renamed ls x) (length rs) reads

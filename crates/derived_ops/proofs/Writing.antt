@@ -17,33 +17,33 @@ use Rattle.derived_ops.specs.declared.writer.Writer.{Writer}
 use Rattle.derived_ops.specs.Shape.{Shape, atom, no, both, either, exists, dist, equal, before_last, equal_nodes, nodes_of}
 use Rattle.derived_ops.specs.Rewriting.{Levels, Written, of_two, one_written, written}
 use Rattle.derived_ops.specs.Distances.{lowest, highest}
-use Rattle.derived_ops.specs.Adding.{Wrote, Adds, node_of_two, negated, many_opposite, negations_of}
+use Rattle.derived_ops.specs.Adding.{AddsNode, AddsShape, node_of_two, negated, many_opposite, negations_of}
 use Rattle.derived_ops.proofs.Told.{length-nodes_of}
 
 -- the same shape in other words
-pub as_shape : {s u : Shape} {old new : Writer} {at : ℕ} → s ≡ u → Adds s old new at → Adds u old new at
-as_shape {old = old} {new = new} {at = at} is adds = subst (λ s. Adds s old new at) is adds
+pub as_shape : {s u : Shape} {old new : Writer} {at : ℕ} → s ≡ u → AddsShape s old new at → AddsShape u old new at
+as_shape {old = old} {new = new} {at = at} is adds = subst (λ s. AddsShape s old new at) is adds
 
 pub as_written : (w : World) {f g : Formula} {k l : ℕ} {ls ms : Levels} {old new : Writer} {at : ℕ} → f ≡ g → k ≡ l → ls ≡ ms →
-    Adds (written w f k ls) old new at → Adds (written w g l ms) old new at
+    AddsShape (written w f k ls) old new at → AddsShape (written w g l ms) old new at
 as_written w {f} {g} {k} {l} {ls} {ms} same_f same_k same_ls adds =
     as_shape (ap (λ f. written w f k ls) same_f ∙ ap (λ k. written w g k ls) same_k ∙ ap (λ ls. written w g l ls) same_ls) adds
 
 -- where only the levels changed before, and changed back behind
 pub framed : {s : Shape} {old before behind new : Writer} {at : ℕ} → before.nodes.items ≡ old.nodes.items → new.nodes.items ≡ behind.nodes.items →
-    new.levels.items ≡ old.levels.items → Adds s before behind at → Adds s old new at
+    new.levels.items ≡ old.levels.items → AddsShape s before behind at → AddsShape s old new at
 framed {s} first last levels adds = record {
   nodes = last ∙ adds.nodes ∙ ap (λ ns. ns ++ nodes_of s (length ns)) first;
   place = adds.place ∙ ap (λ ns. length ns + before_last s) first;
   levels = levels;
 }
 
-pub add_atom : {r : Rel} {x y : Term} {old new : Writer} {at : ℕ} → Wrote (node.Atom r x y) old new at → Adds (atom r x y) old new at
+pub add_atom : {r : Rel} {x y : Term} {old new : Writer} {at : ℕ} → AddsNode (node.Atom r x y) old new at → AddsShape (atom r x y) old new at
 add_atom {old = old} wrote = record { nodes = wrote.nodes; place = omega (arith, wrote.place); levels = wrote.levels }
 
 -- a node behind one part
 behind_one : (s u : Shape) (n : ℕ → Node) (old mid new : Writer) (a at : ℕ) → nodes_of u (length old.nodes.items) ≡ nodes_of s (length old.nodes.items) ++ n (length old.nodes.items + before_last s) ∷ [] →
-    before_last u ≡ before_last s + 1 → Adds s old mid a → Wrote (n a) mid new at → Adds u old new at
+    before_last u ≡ before_last s + 1 → AddsShape s old mid a → AddsNode (n a) mid new at → AddsShape u old new at
 behind_one s u n old mid new a at more last adds wrote =
     let whole : length mid.nodes.items ≡ length old.nodes.items + before_last s + 1 =
     omega (arith, ap length adds.nodes, length-append old.nodes.items (nodes_of s (length old.nodes.items)), length-nodes_of s (length old.nodes.items)) in
@@ -54,16 +54,16 @@ behind_one s u n old mid new a at more last adds wrote =
       levels = wrote.levels ∙ adds.levels;
     }
 
-pub add_no : {s : Shape} {old mid new : Writer} {a at : ℕ} → Adds s old mid a → Wrote (node.Not a) mid new at → Adds (no s) old new at
+pub add_no : {s : Shape} {old mid new : Writer} {a at : ℕ} → AddsShape s old mid a → AddsNode (node.Not a) mid new at → AddsShape (no s) old new at
 add_no {s} {old} {mid} {new} {a} {at} adds wrote = behind_one s (no s) node.Not old mid new a at refl refl adds wrote
 
-pub add_exists : {s : Shape} {low high low2 high2 : ℤ} {old mid new : Writer} {a at : ℕ} → low ≡ low2 → high ≡ high2 → Adds s old mid a → Wrote (node.Exists low high a) mid new at →
-    Adds (exists low2 high2 s) old new at
+pub add_exists : {s : Shape} {low high low2 high2 : ℤ} {old mid new : Writer} {a at : ℕ} → low ≡ low2 → high ≡ high2 → AddsShape s old mid a → AddsNode (node.Exists low high a) mid new at →
+    AddsShape (exists low2 high2 s) old new at
 add_exists {s} {low} {high} {low2} {high2} {old} {mid} {new} {a} {at} same_low same_high adds wrote =
     as_shape (ap (λ low. exists low high s) same_low ∙ ap (λ high. exists low2 high s) same_high)
     (behind_one s (exists low high s) (node.Exists low high) old mid new a at refl refl adds wrote)
 
-pub add_dist : {s : Shape} {x y : Term} {old mid new : Writer} {a at : ℕ} → x ≡ y → Adds s old mid a → Wrote (node.Dist a x) mid new at → Adds (dist s y) old new at
+pub add_dist : {s : Shape} {x y : Term} {old mid new : Writer} {a at : ℕ} → x ≡ y → AddsShape s old mid a → AddsNode (node.Dist a x) mid new at → AddsShape (dist s y) old new at
 add_dist {s} {x} {y} {old} {mid} {new} {a} {at} same adds wrote = as_shape (ap (dist s) same) (behind_one s (dist s x) (λ a. node.Dist a x) old mid new a at refl refl adds wrote)
 
 -- what stands behind two parts
@@ -74,7 +74,7 @@ record TwoAdded (s u : Shape) (old mid last : Writer) (a b : ℕ) : Type 0 where
   whole : length last.nodes.items ≡ length old.nodes.items + before_last s + 1 + before_last u + 1
   levels : last.levels.items ≡ old.levels.items
 
-two_added : (s u : Shape) (old mid last : Writer) (a b : ℕ) → Adds s old mid a → Adds u mid last b → TwoAdded s u old mid last a b
+two_added : (s u : Shape) (old mid last : Writer) (a b : ℕ) → AddsShape s old mid a → AddsShape u mid last b → TwoAdded s u old mid last a b
 two_added s u old mid last a b first second =
     let n = length old.nodes.items in
     let whole : length mid.nodes.items ≡ n + before_last s + 1 = omega (arith, ap length first.nodes, length-append old.nodes.items (nodes_of s n), length-nodes_of s n) in
@@ -98,7 +98,7 @@ two_added s u old mid last a b first second =
 behind_two : (s u t : Shape) (n : ℕ → ℕ → Node) (old mid last new : Writer) (a b at : ℕ) →
     nodes_of t (length old.nodes.items) ≡ nodes_of s (length old.nodes.items) ++ nodes_of u (length old.nodes.items + before_last s + 1)
     ++ n (length old.nodes.items + before_last s) (length old.nodes.items + before_last s + 1 + before_last u) ∷ [] →
-    before_last t ≡ before_last s + 1 + before_last u + 1 → Adds s old mid a → Adds u mid last b → Wrote (n a b) last new at → Adds t old new at
+    before_last t ≡ before_last s + 1 + before_last u + 1 → AddsShape s old mid a → AddsShape u mid last b → AddsNode (n a b) last new at → AddsShape t old new at
 behind_two s u t n old mid last new a b at more last_is first second wrote =
     let m = length old.nodes.items in
     let two = two_added s u old mid last a b first second in
@@ -112,20 +112,20 @@ behind_two s u t n old mid last new a b at more last_is first second wrote =
       levels = wrote.levels ∙ two.levels;
     }
 
-pub add_both : {s u : Shape} {old mid last new : Writer} {a b at : ℕ} → Adds s old mid a → Adds u mid last b → Wrote (node.And a b) last new at → Adds (both s u) old new at
+pub add_both : {s u : Shape} {old mid last new : Writer} {a b at : ℕ} → AddsShape s old mid a → AddsShape u mid last b → AddsNode (node.And a b) last new at → AddsShape (both s u) old new at
 add_both {s} {u} {old} {mid} {last} {new} {a} {b} {at} first second wrote = behind_two s u (both s u) node.And old mid last new a b at refl refl first second wrote
 
-pub add_either : {s u : Shape} {old mid last new : Writer} {a b at : ℕ} → Adds s old mid a → Adds u mid last b → Wrote (node.Or a b) last new at → Adds (either s u) old new at
+pub add_either : {s u : Shape} {old mid last new : Writer} {a b at : ℕ} → AddsShape s old mid a → AddsShape u mid last b → AddsNode (node.Or a b) last new at → AddsShape (either s u) old new at
 add_either {s} {u} {old} {mid} {last} {new} {a} {b} {at} first second wrote = behind_two s u (either s u) node.Or old mid last new a b at refl refl first second wrote
 
-pub add_two : (j : Joint) {s u : Shape} {old mid last new : Writer} {a b at : ℕ} → Adds s old mid a → Adds u mid last b → Wrote (node_of_two j a b) last new at → Adds (of_two j s u) old new at
+pub add_two : (j : Joint) {s u : Shape} {old mid last new : Writer} {a b at : ℕ} → AddsShape s old mid a → AddsShape u mid last b → AddsNode (node_of_two j a b) last new at → AddsShape (of_two j s u) old new at
 add_two joint.And first second wrote = add_both first second wrote
 add_two joint.Or first second wrote = add_either first second wrote
 
 -- five nodes
-pub add_equal : (s u : Shape) (old mid last w1 w2 w3 w4 new : Writer) (a b c d e g at : ℕ) → Adds s old mid a → Adds u mid last b →
-    Wrote (node.And a b) last w1 c → Wrote (node.Not a) w1 w2 d → Wrote (node.Not b) w2 w3 e → Wrote (node.And d e) w3 w4 g → Wrote (node.Or c g) w4 new at →
-    Adds (equal s u) old new at
+pub add_equal : (s u : Shape) (old mid last w1 w2 w3 w4 new : Writer) (a b c d e g at : ℕ) → AddsShape s old mid a → AddsShape u mid last b →
+    AddsNode (node.And a b) last w1 c → AddsNode (node.Not a) w1 w2 d → AddsNode (node.Not b) w2 w3 e → AddsNode (node.And d e) w3 w4 g → AddsNode (node.Or c g) w4 new at →
+    AddsShape (equal s u) old new at
 add_equal s u old mid last w1 w2 w3 w4 new a b c d e g at first second one two three four five =
     let m = length old.nodes.items in
     let t = two_added s u old mid last a b first second in

@@ -11,13 +11,13 @@ use Rattle.derived_ops.specs.Shape.{Shape, no, equal, before_last, nodes_of}
 use Rattle.derived_ops.specs.Rewriting.{Written}
 
 -- one node, of this number
-pub record Wrote (n : Node) (old new : Writer) (at : ℕ) : Type 0 where
+pub record AddsNode (n : Node) (old new : Writer) (at : ℕ) : Type 0 where
   pub nodes : new.nodes.items ≡ old.nodes.items ++ n ∷ []
   pub place : at ≡ length old.nodes.items
   pub levels : new.levels.items ≡ old.levels.items
 
 -- the nodes of a shape, of which the last has this number
-pub record Adds (s : Shape) (old new : Writer) (at : ℕ) : Type 0 where
+pub record AddsShape (s : Shape) (old new : Writer) (at : ℕ) : Type 0 where
   pub nodes : new.nodes.items ≡ old.nodes.items ++ nodes_of s (length old.nodes.items)
   pub place : at ≡ length old.nodes.items + before_last s
   pub levels : new.levels.items ≡ old.levels.items
@@ -36,12 +36,12 @@ many_opposite n f k levels = negated n (f k levels)
 
 -- behind the nodes of a shape those that negate it
 abbrev pub Negates : ℕ → ℕ → Writer → Writer → ℕ → Type 0
-Negates n part old new at = (s : Shape) (first : Writer) → Adds s first old part → Adds (negated n s) first new at
+Negates n part old new at = (s : Shape) (first : Writer) → AddsShape s first old part → AddsShape (negated n s) first new at
 
 -- behind the nodes of two shapes those that make them equal
 abbrev pub Equates : ℕ → ℕ → Writer → Writer → ℕ → Type 0
 Equates left right old new at =
-    (s u : Shape) (first middle : Writer) → Adds s first middle left → Adds u middle old right → Adds (equal s u) first new at
+    (s u : Shape) (first middle : Writer) → AddsShape s first middle left → AddsShape u middle old right → AddsShape (equal s u) first new at
 
 -- how many negations stand round what is at some instant, and round its part: one each where it is to be at every instant
 abbrev pub negations_of : OneOp → ℕ

@@ -3,7 +3,7 @@ ghost use Rattle.std.specs.Prelude.{map, IfOk};
 ghost use Rattle.trio_types.specs.Verdict.{world_of};
 ghost use Rattle.derived_ops.specs.Rewriting.{all_joined, range_of_domain, for_some, one_written, far_written, at_far, within, next, up_to, until, written};
 ghost use Rattle.derived_ops.specs.Shape.{no, either};
-ghost use Rattle.derived_ops.specs.Adding.{Adds, negated, many_opposite};
+ghost use Rattle.derived_ops.specs.Adding.{AddsShape, negated, many_opposite};
 
 use crate::distances::{negations_of, way_of};
 use crate::joint::{Joint, Way};
@@ -16,7 +16,7 @@ impl Writer {
     /// Appends what a formula becomes under this many variables.
     #[cycle(formulas)]
     pub fn formula(&mut self, spec: &Spec, formula: &Formula, level: u32) -> Result<u32, AllocError>
-        ensures { IfOk result (λ at. Adds (written (world_of spec.now) formula.now level self.old.levels.items) self.old self.new at) }
+        ensures { IfOk result (λ at. AddsShape (written (world_of spec.now) formula.now level self.old.levels.items) self.old self.new at) }
     {
         match formula {
             Formula::Lone(term) => {
@@ -59,7 +59,7 @@ impl Writer {
         right: &Formula,
         level: u32,
     ) -> Result<u32, AllocError>
-        ensures { IfOk result (λ at. Adds (either (no (written (world_of spec.now) left.now level self.old.levels.items)) (written (world_of spec.now) right.now level self.old.levels.items)) self.old self.new at) }
+        ensures { IfOk result (λ at. AddsShape (either (no (written (world_of spec.now) left.now level self.old.levels.items)) (written (world_of spec.now) right.now level self.old.levels.items)) self.old self.new at) }
     {
         let left = self.formula(spec, left, level)?;
         let no_left = self.write(Node::Not(left))?;
@@ -77,7 +77,7 @@ impl Writer {
         parts: &[Formula],
         level: u32,
     ) -> Result<u32, AllocError>
-        ensures { IfOk result (λ at. Adds (all_joined joint (map (λ f. written (world_of spec.now) f level self.old.levels.items) parts.now)) self.old self.new at) }
+        ensures { IfOk result (λ at. AddsShape (all_joined joint (map (λ f. written (world_of spec.now) f level self.old.levels.items) parts.now)) self.old self.new at) }
     {
         if parts.is_empty() {
             let at = self.none(joint)?;
@@ -104,7 +104,7 @@ impl Writer {
         body: &Formula,
         level: u32,
     ) -> Result<u32, AllocError>
-        ensures { IfOk result (λ at. Adds (negated negations (for_some (range_of_domain (world_of spec.now) domain) (many_opposite negations (written (world_of spec.now) body.now)) level self.old.levels.items)) self.old self.new at) }
+        ensures { IfOk result (λ at. AddsShape (negated negations (for_some (range_of_domain (world_of spec.now) domain) (many_opposite negations (written (world_of spec.now) body.now)) level self.old.levels.items)) self.old self.new at) }
     {
         let inner = deeper(level)?;
         self.levels.push(level)?;
@@ -118,7 +118,7 @@ impl Writer {
 
     #[cycle(formulas)]
     fn one(&mut self, spec: &Spec, op: OneOp, part: &Formula, level: u32) -> Result<u32, AllocError>
-        ensures { IfOk result (λ at. Adds (one_written (world_of spec.now) op (written (world_of spec.now) part.now) level self.old.levels.items) self.old self.new at) }
+        ensures { IfOk result (λ at. AddsShape (one_written (world_of spec.now) op (written (world_of spec.now) part.now) level self.old.levels.items) self.old self.new at) }
     {
         let inner = deeper(level)?;
         let body = self.formula(spec, part, inner)?;
@@ -138,7 +138,7 @@ impl Writer {
         distance: &Term,
         level: u32,
     ) -> Result<u32, AllocError>
-        ensures { IfOk result (λ at. Adds (far_written (world_of spec.now) op (written (world_of spec.now) part.now) distance.now level self.old.levels.items) self.old self.new at) }
+        ensures { IfOk result (λ at. AddsShape (far_written (world_of spec.now) op (written (world_of spec.now) part.now) distance.now level self.old.levels.items) self.old self.new at) }
     {
         match op {
             FarOp::Dist => {
@@ -167,7 +167,7 @@ impl Writer {
         distance: &Term,
         level: u32,
     ) -> Result<u32, AllocError>
-        ensures { IfOk result (λ at. Adds (at_far way (written (world_of spec.now) part.now) distance.now level self.old.levels.items) self.old self.new at) }
+        ensures { IfOk result (λ at. AddsShape (at_far way (written (world_of spec.now) part.now) distance.now level self.old.levels.items) self.old self.new at) }
     {
         let first = self.not_negative(distance)?;
         let part = self.formula(spec, part, level)?;
@@ -188,7 +188,7 @@ impl Writer {
         distance: &Term,
         level: u32,
     ) -> Result<u32, AllocError>
-        ensures { IfOk result (λ at. Adds (within (world_of spec.now) way ends (many_opposite negations (written (world_of spec.now) part.now)) distance.now level self.old.levels.items) self.old self.new at) }
+        ensures { IfOk result (λ at. AddsShape (within (world_of spec.now) way ends (many_opposite negations (written (world_of spec.now) part.now)) distance.now level self.old.levels.items) self.old self.new at) }
     {
         let inner = deeper(level)?;
         let near = self.near(ends, level, distance)?;
@@ -212,7 +212,7 @@ impl Writer {
         distance: &Term,
         level: u32,
     ) -> Result<u32, AllocError>
-        ensures { IfOk result (λ at. Adds (no (within (world_of spec.now) way ends (many_opposite negations (written (world_of spec.now) part.now)) distance.now level self.old.levels.items)) self.old self.new at) }
+        ensures { IfOk result (λ at. AddsShape (no (within (world_of spec.now) way ends (many_opposite negations (written (world_of spec.now) part.now)) distance.now level self.old.levels.items)) self.old self.new at) }
     {
         let some = self.within(spec, way, ends, negations, part, distance, level)?;
         let at = self.write(Node::Not(some))?;
@@ -229,7 +229,7 @@ impl Writer {
         distance: &Term,
         level: u32,
     ) -> Result<u32, AllocError>
-        ensures { IfOk result (λ at. Adds (next (world_of spec.now) way (written (world_of spec.now) part.now) distance.now level self.old.levels.items) self.old self.new at) }
+        ensures { IfOk result (λ at. AddsShape (next (world_of spec.now) way (written (world_of spec.now) part.now) distance.now level self.old.levels.items) self.old self.new at) }
     {
         let there = self.at_far(spec, way, part, distance, level)?;
         let never = self.throughout(spec, way, Ends::Bare, 2, part, distance, level)?;
@@ -247,7 +247,7 @@ impl Writer {
         second: &Formula,
         level: u32,
     ) -> Result<u32, AllocError>
-        ensures { IfOk result (λ at. Adds (until (world_of spec.now) way (written (world_of spec.now) first.now) (written (world_of spec.now) second.now) level self.old.levels.items) self.old self.new at) }
+        ensures { IfOk result (λ at. AddsShape (until (world_of spec.now) way (written (world_of spec.now) first.now) (written (world_of spec.now) second.now) level self.old.levels.items) self.old self.new at) }
     {
         let inner = deeper(level)?;
         let second = self.formula(spec, second, inner)?;
@@ -267,7 +267,7 @@ impl Writer {
         part: &Formula,
         level: u32,
     ) -> Result<u32, AllocError>
-        ensures { IfOk result (λ at. Adds (up_to (world_of spec.now) way (written (world_of spec.now) part.now) level self.old.levels.items) self.old self.new at) }
+        ensures { IfOk result (λ at. AddsShape (up_to (world_of spec.now) way (written (world_of spec.now) part.now) level self.old.levels.items) self.old self.new at) }
     {
         let inner = deeper(level)?;
         let deep = deeper(inner)?;

@@ -6,7 +6,7 @@ ghost use Rattle.trio_base.specs.declared.operators.Rel.TheVariants as rel;
 ghost use Rattle.derived_ops.specs.Rewriting.{renamed, towards, relation_of, of_none, range_of_domain, last, least_of};
 ghost use Rattle.derived_ops.specs.Distances.{lowest, highest};
 ghost use Rattle.trio_types.specs.Verdict.{world_of};
-ghost use Rattle.derived_ops.specs.Adding.{Wrote, Adds, node_of_two, Negates, Equates};
+ghost use Rattle.derived_ops.specs.Adding.{AddsNode, AddsShape, node_of_two, Negates, Equates};
 
 use crate::distances::{
     first_of_domain, highest, last, last_of_domain, least_of, lowest, relation_of,
@@ -40,7 +40,7 @@ impl Writer {
 
     /// Appends a node. Only want of memory refuses it, or that there are more nodes than are numbered; so do all that append.
     pub fn write(&mut self, node: Node) -> Result<u32, AllocError>
-        ensures { IfOk result (λ at. Wrote node self.old self.new at) }
+        ensures { IfOk result (λ at. AddsNode node self.old self.new at) }
     {
         let Ok(at) = u32::try_from(self.nodes.len()) else {
             return Err(AllocError);
@@ -51,7 +51,7 @@ impl Writer {
 
     /// Two terms in a relation.
     pub fn atom(&mut self, rel: Rel, left: &Term, right: &Term) -> Result<u32, AllocError>
-        ensures { IfOk result (λ at. Wrote (node.Atom rel (renamed self.old.levels.items left.now) (renamed self.old.levels.items right.now)) self.old self.new at) }
+        ensures { IfOk result (λ at. AddsNode (node.Atom rel (renamed self.old.levels.items left.now) (renamed self.old.levels.items right.now)) self.old self.new at) }
     {
         let left = renamed(self.alloc, self.levels.as_slice(), left)?;
         let right = renamed(self.alloc, self.levels.as_slice(), right)?;
@@ -61,7 +61,7 @@ impl Writer {
 
     /// A term that is to be true.
     pub fn lone(&mut self, claim: &Term) -> Result<u32, AllocError>
-        ensures { IfOk result (λ at. Wrote (node.Atom rel.Eq (renamed self.old.levels.items claim.now) (term.Value 0 1)) self.old self.new at) }
+        ensures { IfOk result (λ at. AddsNode (node.Atom rel.Eq (renamed self.old.levels.items claim.now) (term.Value 0 1)) self.old self.new at) }
     {
         let claim = renamed(self.alloc, self.levels.as_slice(), claim)?;
         let at = self.write(Node::Atom(Rel::Eq, claim, Term::Value(0, 1)))?;
@@ -70,7 +70,7 @@ impl Writer {
 
     /// A distance that is not negative.
     pub fn not_negative(&mut self, distance: &Term) -> Result<u32, AllocError>
-        ensures { IfOk result (λ at. Wrote (node.Atom rel.Le (term.Number 0) (renamed self.old.levels.items distance.now)) self.old self.new at) }
+        ensures { IfOk result (λ at. AddsNode (node.Atom rel.Le (term.Number 0) (renamed self.old.levels.items distance.now)) self.old self.new at) }
     {
         let distance = renamed(self.alloc, self.levels.as_slice(), distance)?;
         let at = self.write(Node::Atom(Rel::Le, Term::Number(0), distance))?;
@@ -79,7 +79,7 @@ impl Writer {
 
     /// The variable of this level within a distance.
     pub fn near(&mut self, ends: Ends, level: u32, distance: &Term) -> Result<u32, AllocError>
-        ensures { IfOk result (λ at. Wrote (node.Atom (relation_of ends) (term.Var level) (renamed self.old.levels.items distance.now)) self.old self.new at) }
+        ensures { IfOk result (λ at. AddsNode (node.Atom (relation_of ends) (term.Var level) (renamed self.old.levels.items distance.now)) self.old self.new at) }
     {
         let distance = renamed(self.alloc, self.levels.as_slice(), distance)?;
         let rel = relation_of(ends);
@@ -89,7 +89,7 @@ impl Writer {
 
     /// A part at a distance.
     pub fn dist(&mut self, way: Way, part: u32, distance: &Term) -> Result<u32, AllocError>
-        ensures { IfOk result (λ at. Wrote (node.Dist part (towards way (renamed self.old.levels.items distance.now))) self.old self.new at) }
+        ensures { IfOk result (λ at. AddsNode (node.Dist part (towards way (renamed self.old.levels.items distance.now))) self.old self.new at) }
     {
         let distance = renamed(self.alloc, self.levels.as_slice(), distance)?;
         let distance = towards(self.alloc, way, distance)?;
@@ -99,7 +99,7 @@ impl Writer {
 
     /// A part at the distance of the variable of this level.
     pub fn dist_of_variable(&mut self, way: Way, part: u32, level: u32) -> Result<u32, AllocError>
-        ensures { IfOk result (λ at. Wrote (node.Dist part (towards way (term.Var level))) self.old self.new at) }
+        ensures { IfOk result (λ at. AddsNode (node.Dist part (towards way (term.Var level))) self.old self.new at) }
     {
         let distance = towards(self.alloc, way, Term::Var(level))?;
         let at = self.write(Node::Dist(part, distance))?;
@@ -108,7 +108,7 @@ impl Writer {
 
     /// What is true of no part: every one is, or none.
     pub fn none(&mut self, joint: Joint) -> Result<u32, AllocError>
-        ensures { IfOk result (λ at. Adds (of_none joint) self.old self.new at) }
+        ensures { IfOk result (λ at. AddsShape (of_none joint) self.old self.new at) }
     {
         let every = self.write(Node::Atom(Rel::Eq, Term::Number(0), Term::Number(0)))?;
         match joint {
@@ -122,7 +122,7 @@ impl Writer {
 
     /// Two parts joined.
     pub fn join(&mut self, joint: Joint, left: u32, right: u32) -> Result<u32, AllocError>
-        ensures { IfOk result (λ at. Wrote (node_of_two joint left right) self.old self.new at) }
+        ensures { IfOk result (λ at. AddsNode (node_of_two joint left right) self.old self.new at) }
     {
         let node = match joint {
             Joint::And => Node::And(left, right),
@@ -134,7 +134,7 @@ impl Writer {
 
     /// A part for some whole number from the first to the second, as one more variable.
     fn exists(&mut self, low: i64, high: i64, part: u32) -> Result<u32, AllocError>
-        ensures { IfOk result (λ at. Wrote (node.Exists low high part) self.old self.new at) }
+        ensures { IfOk result (λ at. AddsNode (node.Exists low high part) self.old self.new at) }
     {
         let at = self.write(Node::Exists(low, high, part))?;
         Ok(at)
@@ -142,7 +142,7 @@ impl Writer {
 
     /// A part at some distance that an operator on one formula speaks of.
     pub fn exists_one(&mut self, spec: &Spec, op: OneOp, part: u32) -> Result<u32, AllocError>
-        ensures { IfOk result (λ at. Wrote (node.Exists (lowest (world_of spec.now) op) (highest (world_of spec.now) op) part) self.old self.new at) }
+        ensures { IfOk result (λ at. AddsNode (node.Exists (lowest (world_of spec.now) op) (highest (world_of spec.now) op) part) self.old self.new at) }
     {
         let at = self.exists(lowest(spec, op), highest(spec, op), part)?;
         Ok(at)
@@ -150,7 +150,7 @@ impl Writer {
 
     /// A part for some value of a domain.
     pub fn exists_value(&mut self, spec: &Spec, domain: u32, part: u32) -> Result<u32, AllocError>
-        ensures { IfOk result (λ at. Wrote (node.Exists (range_of_domain (world_of spec.now) domain).low (range_of_domain (world_of spec.now) domain).high part) self.old self.new at) }
+        ensures { IfOk result (λ at. AddsNode (node.Exists (range_of_domain (world_of spec.now) domain).low (range_of_domain (world_of spec.now) domain).high part) self.old self.new at) }
     {
         let first = first_of_domain(spec, domain);
         let at = self.exists(first, last_of_domain(spec, domain), part)?;
@@ -159,7 +159,7 @@ impl Writer {
 
     /// A part at some distance from the least of a range.
     pub fn exists_within(&mut self, spec: &Spec, ends: Ends, part: u32) -> Result<u32, AllocError>
-        ensures { IfOk result (λ at. Wrote (node.Exists (least_of ends) (last (world_of spec.now)) part) self.old self.new at) }
+        ensures { IfOk result (λ at. AddsNode (node.Exists (least_of ends) (last (world_of spec.now)) part) self.old self.new at) }
     {
         let at = self.exists(least_of(ends), last(spec), part)?;
         Ok(at)
@@ -167,7 +167,7 @@ impl Writer {
 
     /// A part at some distance from 1.
     pub fn exists_ahead(&mut self, spec: &Spec, part: u32) -> Result<u32, AllocError>
-        ensures { IfOk result (λ at. Wrote (node.Exists (pos 1) (last (world_of spec.now)) part) self.old self.new at) }
+        ensures { IfOk result (λ at. AddsNode (node.Exists (pos 1) (last (world_of spec.now)) part) self.old self.new at) }
     {
         let at = self.exists(1, last(spec), part)?;
         Ok(at)

@@ -14,7 +14,7 @@ use Rattle.trio_types.specs.declared.formula.Term.{Term}
 use Rattle.trio_types.specs.declared.formula.Term.TheVariants as term
 use Rattle.trio_types.specs.declared.formula.Term.TheOpen as open_term
 use Rattle.trio_types.specs.World.{World, values_in}
-use Rattle.trio_types.specs.Kinds.{Gathered, gathered, gather_term, in_role, part, is_right, is_arity, has_kind, kind_of_constant, args_of, argument_uses}
+use Rattle.trio_types.specs.Kinds.{Gathered, gathered, gather_term, required, part, is_right, is_arity, has_kind, kind_of_constant, args_of, argument_uses}
 use Rattle.trio_types.specs.Bounds.{Bound, bound_of, bounded, most_of, domain_bound, variable_bound, item_bound}
 use Rattle.trio_types.proofs.Lists.{all_right, all_flat, get_within, map-map}
 use Rattle.trio_types.proofs.KindsAt.{gathered-Value, gathered-Var, gathered-Read, gathered-Sum, gathered-Times}
@@ -108,7 +108,7 @@ sum_part w parts e fits k p at =
     let inner = λ (p : SignedTerm). gathered w vs (out-SignedTerm p).term in
     let gs = map inner parts in
     let all = sym (ap (λ (g : Gathered). list_all is_right (g.uses fits.is_inside)) (gathered-Sum w vs parts)) ∙ fits.right in
-    let deep = all_right is_right (map (λ (g : Gathered). in_role part g.kind) gs) (flat_map (λ (g : Gathered). g.uses fits.is_inside) gs) all in
+    let deep = all_right is_right (map (λ (g : Gathered). required part g.kind) gs) (flat_map (λ (g : Gathered). g.uses fits.is_inside) gs) all in
     let most = ap (λ (b : Bound). b.most) (bound_of-Sum w vs parts) in
     let bound = λ (p : SignedTerm). bound_of w vs (out-SignedTerm p).term in
     let above = greatest_above (map (λ (b : Bound). b.most) (map bound parts)) k (bound p).most

@@ -11,11 +11,11 @@ use Rattle.history_table.specs.declared.fault.HistFault.{HistFault}
 use Rattle.history_table.specs.declared.fault.HistFault.TheVariants as fault
 use Rattle.history_table.specs.declared.line.Line.{Line}
 use Rattle.history_table.specs.declared.lines.Found.{Found}
-use Rattle.history_table.specs.Lines.{Numbered, Placed, lines_of, AreRead}
+use Rattle.history_table.specs.Lines.{Numbered, NumberedLine, lines_of, AreRead}
 use Rattle.history_table.specs.Rows.{named_row, is_outside}
-use Rattle.history_table.specs.History.{row_fault, read_fault, have_row, line_fault, lines_fault, first_of, given_of, missing_row, history_of, if_whole, if_sound, Says, IsGivenText, HasHistFault, IsHistoryAnswer, OneHistory, HistoryOrFault}
+use Rattle.history_table.specs.History.{row_fault, read_fault, have_row, line_fault, lines_fault, first_of, given_of, missing_row, history_of, if_whole, if_sound, SaysHistory, IsGivenText, HasHistFault, IsHistoryAnswer, OneHistory, HistoryOrFault}
 use Rattle.history_table.specs.Fitting.{IsGiven}
-use Rattle.history_table.specs.Decoding.{line_of, lines_by, placed_of, AreFound, IsFault, joined, joined_of, has_row, IsJoined}
+use Rattle.history_table.specs.Decoding.{line_of, lines_by, placed_of, AreFound, IsFault, joined_rows, joined_lines, has_row, IsJoined}
 use Rattle.history_table.proofs.Spellings.{reads_line, reads_once}
 use Rattle.history_table.proofs.LineRuns.{lines_by_text}
 use Rattle.history_table.proofs.LineSteps.{history_is}
@@ -25,7 +25,7 @@ pub are_read : (ns : List Numbered) → AreRead ns (placed_of ns)
 are_read [] = tt
 are_read (n ∷ ns) = (refl, reads_line n.tokens, are_read ns)
 
-pub read_once : (ns : List Numbered) (ls : List Placed) → AreRead ns ls → placed_of ns ≡ ls
+pub read_once : (ns : List Numbered) (ls : List NumberedLine) → AreRead ns ls → placed_of ns ≡ ls
 read_once [] [] are = refl
 read_once [] (l ∷ ls) are = absurd are
 read_once (n ∷ ns) [] are = absurd are
@@ -59,7 +59,7 @@ unfolding OfLine
 of_read w taken number None f is = subst OfLine (same_Some _ _ is) tt
 of_read w taken number (Some line) f is = of_row w taken number line (named_row w line) f is
 
-pub of_lines : (w : World) (earlier lines : List Placed) (f : HistFault) → lines_fault w earlier lines ≡ Some f → OfLine f
+pub of_lines : (w : World) (earlier lines : List NumberedLine) (f : HistFault) → lines_fault w earlier lines ≡ Some f → OfLine f
 unfolding lines_fault
 of_lines w earlier [] f is = cc
 of_lines w earlier (p ∷ ps) f is = go (line_fault w earlier p) refl (of_lines w (earlier ++ p ∷ []) ps f) is
@@ -70,7 +70,7 @@ of_lines w earlier (p ∷ ps) f is = go (line_fault w earlier p) refl (of_lines 
     go (Some g) e more is = subst OfLine (same_Some _ _ is) (of_read w (have_row w earlier) p.number p.line g e)
 
 says : (w : World) (text : List ℕ) (tokens : List Token) (answer : Result (List (Option ℕ)) HistFault) → IsTokens text tokens →
-    history_of w (placed_of (lines_of text tokens)) ≡ answer → Says w text answer
+    history_of w (placed_of (lines_of text tokens)) ≡ answer → SaysHistory w text answer
 says w text tokens answer lexed is =
     record { tokens = tokens; lexed = lexed; lines = placed_of (lines_of text tokens); read = are_read (lines_of text tokens); answered = is }
 
@@ -82,7 +82,7 @@ pub faulty : (w : World) (text : List ℕ) (tokens : List Token) (lexemes : List
 unfolding OfLine
 faulty w text tokens lexemes f lexed said is = go f is
   where
-    at : (g : HistFault) → lines_fault w [] (placed_of (lines_by tokens lexemes)) ≡ Some g → Says w text (Err g)
+    at : (g : HistFault) → lines_fault w [] (placed_of (lines_by tokens lexemes)) ≡ Some g → SaysHistory w text (Err g)
     at g e = says w text tokens (Err g) lexed
         (ap (λ lines. history_of w (placed_of lines)) (sym (lines_are text tokens lexemes said)) ∙ ap (if_sound w (placed_of (lines_by tokens lexemes))) e)
 
@@ -105,13 +105,13 @@ pub whole : (w : World) (text : List ℕ) (tokens : List Token) (lexemes : List 
     lines_fault w [] (placed_of (lines_by tokens lexemes)) ≡ None → IsJoined w found r → IsHistoryAnswer w text r × IfOk r (IsGiven w)
 whole w text tokens lexemes found r lexed said are none is = go r is
   where
-    same : history_of w (placed_of (lines_of text tokens)) ≡ joined_of w found
+    same : history_of w (placed_of (lines_of text tokens)) ≡ joined_lines w found
     same = ap (λ lines. history_of w (placed_of lines)) (sym (lines_are text tokens lexemes said)) ∙ history_is w (placed_of (lines_by tokens lexemes)) found are none
 
-    at : (answer : Result (List (Option ℕ)) HistFault) → joined_of w found ≡ answer → Says w text answer
+    at : (answer : Result (List (Option ℕ)) HistFault) → joined_lines w found ≡ answer → SaysHistory w text answer
     at answer e = says w text tokens answer lexed (same ∙ e)
 
-    no_lex : (o : Option ℕ) (place : ℕ) → joined found (rows_of w) o ≡ Err (fault.Lex place) → ⊥
+    no_lex : (o : Option ℕ) (place : ℕ) → joined_rows found (rows_of w) o ≡ Err (fault.Lex place) → ⊥
     no_lex None place e = cc
     no_lex (Some row) place e = cc
 
@@ -128,7 +128,7 @@ whole w text tokens lexemes found r lexed said are none is = go r is
 
 -- an answer of bytes, or of lines
 told : (w : World) (text : List ℕ) (a : Result (List (Option ℕ)) HistFault) → a ≢ Err fault.Memory → IsHistoryAnswer w text a →
-    ((place : ℕ) × (a ≡ Err (fault.Lex place)) × IsLexFault text place) ⊎ Says w text a
+    ((place : ℕ) × (a ≡ Err (fault.Lex place)) × IsLexFault text place) ⊎ SaysHistory w text a
 told w text (Ok given) some is = inr is
 told w text (Err (fault.Lex place)) some is = inl (place, refl, is)
 told w text (Err (fault.Syntax line)) some is = inr is
@@ -143,15 +143,15 @@ told w text (Err fault.Memory) some is = absurd (some refl)
 module _ (one_list : (text : List ℕ) (tokens others : List Token) → IsTokens text tokens → IsTokens text others → tokens ≡ others)
     (one_fault : (text : List ℕ) (place other : ℕ) → IsLexFault text place → IsLexFault text other → place ≡ other)
     (apart : (text : List ℕ) (place : ℕ) (tokens : List Token) → IsLexFault text place → IsTokens text tokens → ⊥) where
-  said : (w : World) (text : List ℕ) (a b : Result (List (Option ℕ)) HistFault) → Says w text a → Says w text b → a ≡ b
+  said : (w : World) (text : List ℕ) (a b : Result (List (Option ℕ)) HistFault) → SaysHistory w text a → SaysHistory w text b → a ≡ b
   said w text a b x y =
       sym x.answered ∙ ap (history_of w) (sym (read_once (lines_of text x.tokens) x.lines x.read))
       ∙ ap (λ ts. history_of w (placed_of (lines_of text ts))) (one_list text x.tokens y.tokens x.lexed y.lexed)
       ∙ ap (history_of w) (read_once (lines_of text y.tokens) y.lines y.read) ∙ y.answered
 
   one_told : (w : World) (text : List ℕ) (a b : Result (List (Option ℕ)) HistFault) →
-      ((place : ℕ) × (a ≡ Err (fault.Lex place)) × IsLexFault text place) ⊎ Says w text a →
-      ((place : ℕ) × (b ≡ Err (fault.Lex place)) × IsLexFault text place) ⊎ Says w text b → a ≡ b
+      ((place : ℕ) × (a ≡ Err (fault.Lex place)) × IsLexFault text place) ⊎ SaysHistory w text a →
+      ((place : ℕ) × (b ≡ Err (fault.Lex place)) × IsLexFault text place) ⊎ SaysHistory w text b → a ≡ b
   one_told w text a b (inl x) (inl y) = x.1 ∙ ap (λ place. Err (fault.Lex place)) (one_fault text x.0 y.0 x.2 y.2) ∙ sym y.1
   one_told w text a b (inl x) (inr y) = absurd (apart text x.0 y.tokens x.2 y.lexed)
   one_told w text a b (inr x) (inl y) = absurd (apart text y.0 x.tokens y.2 x.lexed)
@@ -160,7 +160,7 @@ module _ (one_list : (text : List ℕ) (tokens others : List Token) → IsTokens
   pub one_history : OneHistory
   one_history w text a b some other x y = one_told w text a b (told w text a some x) (told w text b other y)
 
-of_line_text : (w : World) (text : List ℕ) (f : HistFault) → OfLine f → Says w text (Err f) → HasHistFault w text f
+of_line_text : (w : World) (text : List ℕ) (f : HistFault) → OfLine f → SaysHistory w text (Err f) → HasHistFault w text f
 unfolding OfLine
 of_line_text w text fault.Memory of is = absurd of
 of_line_text w text (fault.Lex place) of is = absurd of
@@ -176,7 +176,7 @@ of_tokens : (w : World) (text : List ℕ) (tokens : List Token) → IsTokens tex
     ((given : List (Option ℕ)) × IsGivenText w text given) ⊎ ((f : HistFault) × HasHistFault w text f)
 of_tokens w text tokens lexed = go (lines_fault w [] lines) refl
   where
-    lines : List Placed
+    lines : List NumberedLine
     lines = placed_of (lines_of text tokens)
 
     sound : lines_fault w [] lines ≡ None → (m : Option ℕ) → missing_row w lines ≡ m →

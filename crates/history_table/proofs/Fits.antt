@@ -14,7 +14,7 @@ use Rattle.history_table.specs.declared.fault.HistFault.{HistFault}
 use Rattle.history_table.specs.declared.fault.HistFault.TheVariants as fault
 use Rattle.history_table.specs.declared.line.Value.{Value}
 use Rattle.history_table.specs.declared.line.Line.{Line}
-use Rattle.history_table.specs.Lines.{Placed}
+use Rattle.history_table.specs.Lines.{NumberedLine}
 use Rattle.history_table.specs.Rows.{value_index, named_row, is_outside, known_index}
 use Rattle.history_table.specs.History.{row_fault, read_fault, is_named, names, have_row, line_fault, lines_fault, first_of, missing_row, known_cells, row_cells, given_of, history_of, if_sound, if_whole}
 use Rattle.history_table.specs.Fitting.{IsGiven, is_below}
@@ -44,7 +44,7 @@ first_none : (f g : Option HistFault) → first_of f g ≡ None → (f ≡ None)
 first_none None g e = (refl, e)
 first_none (Some f) g e = cc
 
-found_sized : (w : World) (earlier lines : List Placed) (row : Row) → lines_fault w earlier lines ≡ None → have_row w lines row ≡ true →
+found_sized : (w : World) (earlier lines : List NumberedLine) (row : Row) → lines_fault w earlier lines ≡ None → have_row w lines row ≡ true →
     length (row_cells w lines row) ≡ w.instants
 unfolding lines_fault
 found_sized w earlier [] row sound some = cc
@@ -52,7 +52,7 @@ found_sized w earlier (p ∷ ps) row sound some =
     let each = first_none (line_fault w earlier p) (lines_fault w (earlier ++ p ∷ []) ps) sound in
     at_line (names w row p) refl (find (names w row) ps) (have_row w ps row) (λ any. found_sized w (earlier ++ p ∷ []) ps row each.1 any) each.0 some
   where
-    at_line : (b : Bool) → names w row p ≡ b → (rest : Option Placed) (others : Bool) →
+    at_line : (b : Bool) → names w row p ≡ b → (rest : Option NumberedLine) (others : Bool) →
         (others ≡ true → length (known_cells w row.item (option_and_then (λ q. q.line) rest)) ≡ w.instants) →
         line_fault w earlier p ≡ None → (b || others) ≡ true →
         length (known_cells w row.item (option_and_then (λ q. q.line) (cond b (Some p) rest))) ≡ w.instants
@@ -108,7 +108,7 @@ missing_next test n row rows none = at_row (test row) (position_from test (n + 1
     at_row false o none = (refl, none)
 
 -- row by row there are as many entries as cells, and each is below its size
-rows_fit : (w : World) (lines : List Placed) (n : ℕ) (rows : List Row) → lines_fault w [] lines ≡ None → position_from (λ row. not (have_row w lines row)) n rows ≡ None →
+rows_fit : (w : World) (lines : List NumberedLine) (n : ℕ) (rows : List Row) → lines_fault w [] lines ≡ None → position_from (λ row. not (have_row w lines row)) n rows ≡ None →
     (length (flat_map (row_cells w lines) rows) ≡ length (flat_map (cells_of_row w) rows)) × Below w (flat_map (cells_of_row w) rows) (flat_map (row_cells w lines) rows)
 unfolding Below
 rows_fit w lines n [] sound none = (refl, refl)
@@ -128,7 +128,7 @@ pub same_Ok : {A E : Type 0} (x y : A) → ◌≡◌ {A = Result A E} (Ok x) (Ok
 same_Ok x y e = cc
 
 -- a history fits
-pub given_fits : (w : World) (lines : List Placed) (given : List (Option ℕ)) → history_of w lines ≡ Ok given → IsGiven w given
+pub given_fits : (w : World) (lines : List NumberedLine) (given : List (Option ℕ)) → history_of w lines ≡ Ok given → IsGiven w given
 unfolding cells_of Below
 given_fits w lines given is = go (lines_fault w [] lines) (missing_row w lines) refl refl is
   where

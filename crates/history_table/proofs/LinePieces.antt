@@ -10,7 +10,7 @@ use Rattle.trio_text.specs.declared.lexeme.Lexeme.TheVariants as lexeme
 use Rattle.trio_text.specs.declared.token.Reserved.TheVariants as reserved
 use Rattle.trio_text.specs.declared.token.Symbol.TheVariants as symbol
 use Rattle.trio_text.specs.Spelling.{is_name}
-use Rattle.trio_print.specs.Pieces.{Piece, token, blank, line_end, text_of, lexemes_in}
+use Rattle.trio_print.specs.Pieces.{Piece, token, blank, line_end, pieces_text, lexemes_in}
 use Rattle.trio_print.proofs.Spaced.{is_lexeme, can_meet, first_of, are_spaced, meets_blank, meets_line_end, meets_sign, spaced_behind_sign}
 use Rattle.trio_print.proofs.Printed.{tokens_of, lexemes-append, lexemes-tokens, spaced_lexemes}
 use Rattle.history_table.specs.declared.line.Value.{Value}
@@ -162,10 +162,10 @@ one_by_one n (line ∷ lines) =
 
 -- the tokens of printed lines are those lines
 pub read_one_by_one : (lines : List Line) → are_spaced (flat_map line_pieces lines) ≡ true →
-    lines_of (text_of (flat_map line_pieces lines)) (tokens_of 0 1 (flat_map line_pieces lines)) ≡ numbered_lines 1 lines
+    lines_of (pieces_text (flat_map line_pieces lines)) (tokens_of 0 1 (flat_map line_pieces lines)) ≡ numbered_lines 1 lines
 read_one_by_one lines spaced =
     let ps : List Piece = flat_map line_pieces lines in
-    sym (lines_by_text (text_of ps) (tokens_of 0 1 ps)) ∙ ap (lines_by (tokens_of 0 1 ps)) (spaced_lexemes ps spaced) ∙ lines_by_pieces 0 1 ps ∙ one_by_one 1 lines
+    sym (lines_by_text (pieces_text ps) (tokens_of 0 1 ps)) ∙ ap (lines_by (tokens_of 0 1 ps)) (spaced_lexemes ps spaced) ∙ lines_by_pieces 0 1 ps ∙ one_by_one 1 lines
 
 -- ---- printed lines stand apart
 

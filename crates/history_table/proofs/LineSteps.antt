@@ -14,10 +14,10 @@ use Rattle.trio_text.specs.declared.token.Token.{Token}
 use Rattle.history_table.specs.declared.fault.HistFault.{HistFault}
 use Rattle.history_table.specs.declared.fault.HistFault.TheVariants as fault
 use Rattle.history_table.specs.declared.lines.Found.{Found}
-use Rattle.history_table.specs.Lines.{Numbered, Placed}
+use Rattle.history_table.specs.Lines.{Numbered, NumberedLine}
 use Rattle.history_table.specs.Rows.{same_row}
 use Rattle.history_table.specs.History.{is_named, names, have_row, read_fault, line_fault, lines_fault, first_of, known_cells, row_cells, if_sound, if_whole, history_of}
-use Rattle.history_table.specs.Decoding.{line_of, lines_by, placed_of, IsFound, AreFound, has_row, row_of, cells_at, cells_found, joined, joined_of, IsFault}
+use Rattle.history_table.specs.Decoding.{line_of, lines_by, placed_of, IsFound, AreFound, has_row, row_from, cells_at, cells_found, joined_rows, joined_lines, IsFault}
 use Rattle.history_table.proofs.LineRuns.{IsRun, eq_from}
 
 -- the lines before `left` were found, and are without fault
@@ -30,46 +30,46 @@ pub record Behind (world : World) (all left : List Numbered) (found : List Found
 pub behind_start : (world : World) (all : List Numbered) → Behind world all all []
 behind_start world all = record { seen = []; whole = refl; are_found = tt; same_fault = refl }
 
-pub has_row_is : (world : World) (seen : List Placed) (found : List Found) → AreFound world seen found → (row : Row) →
+pub has_row_is : (world : World) (seen : List NumberedLine) (found : List Found) → AreFound world seen found → (row : Row) →
     have_row world seen row ≡ has_row found row
 has_row_is world [] [] are row = refl
 has_row_is world [] (f ∷ fs) are row = absurd are
 has_row_is world (p ∷ ps) [] are row = absurd are
 has_row_is world (p ∷ ps) (f ∷ fs) are row =
-    ap (λ o. is_named o row || have_row world ps row) are.0.row ∙ ap (λ b. same_row (row_of f.row) row || b) (has_row_is world ps fs are.1 row)
+    ap (λ o. is_named o row || have_row world ps row) are.0.row ∙ ap (λ b. same_row (row_from f.row) row || b) (has_row_is world ps fs are.1 row)
 
 -- what the first line that names this row gives its cells
-pub cells_is : (world : World) (seen : List Placed) (found : List Found) → AreFound world seen found → (row : Row) →
+pub cells_is : (world : World) (seen : List NumberedLine) (found : List Found) → AreFound world seen found → (row : Row) →
     row_cells world seen row ≡ cells_at found row
 cells_is world [] [] are row = refl
 cells_is world [] (f ∷ fs) are row = absurd are
 cells_is world (p ∷ ps) [] are row = absurd are
 cells_is world (p ∷ ps) (f ∷ fs) are row =
-    step (names world row p) (same_row (row_of f.row) row) (ap (λ o. is_named o row) are.0.row)
+    step (names world row p) (same_row (row_from f.row) row) (ap (λ o. is_named o row) are.0.row)
     (λ e. eq_from f.row.item row.item (and_parts (f.row.item == row.item) (bytes_eq f.row.args row.args) e).0)
     (cells_is world ps fs are.1 row)
   where
     step : (b c : Bool) → b ≡ c → (c ≡ true → f.row.item ≡ row.item) → row_cells world ps row ≡ cells_at fs row →
         known_cells world row.item (option_and_then (λ q. q.line) (cond b (Some p) (find (names world row) ps)))
-        ≡ cells_found (cond c (Some f) (find (λ g. same_row (row_of g.row) row) fs))
+        ≡ cells_found (cond c (Some f) (find (λ g. same_row (row_from g.row) row) fs))
     step true true e same more = ap (λ r. known_cells world r p.line) (sym (same refl)) ∙ are.0.cells
     step false false e same more = more
     step true false e same more = cc
     step false true e same more = cc
 
 -- the fault of a line behind those found
-fault_is : (world : World) (seen : List Placed) (found : List Found) → AreFound world seen found → (p : Placed) →
+fault_is : (world : World) (seen : List NumberedLine) (found : List Found) → AreFound world seen found → (p : NumberedLine) →
     line_fault world seen p ≡ read_fault world (has_row found) p.number p.line
 fault_is world seen found are p = ap (λ taken. read_fault world taken p.number p.line) (fun_ext (has_row_is world seen found are))
 
-found_more : (world : World) (ps : List Placed) (fs : List Found) (p : Placed) (f : Found) → AreFound world ps fs → IsFound world p.line f →
+found_more : (world : World) (ps : List NumberedLine) (fs : List Found) (p : NumberedLine) (f : Found) → AreFound world ps fs → IsFound world p.line f →
     AreFound world (ps ++ p ∷ []) (fs ++ f ∷ [])
 found_more world [] [] p f are is = (is, tt)
 found_more world [] (g ∷ gs) p f are is = absurd are
 found_more world (q ∷ qs) [] p f are is = absurd are
 found_more world (q ∷ qs) (g ∷ gs) p f are is = (are.0, found_more world qs gs p f are.1 is)
 
-placed : ℕ → List Lexeme → Placed
+placed : ℕ → List Lexeme → NumberedLine
 placed number tokens = record { number = number; line = line_of tokens }
 
 placed-append : (xs ys : List Numbered) → placed_of (xs ++ ys) ≡ placed_of xs ++ placed_of ys
@@ -144,18 +144,18 @@ last_line world all [] lexemes found b none = behind_end world all found b
 last_line world all (token ∷ rest) lexemes found b none = cc
 
 -- the history of lines without fault
-pub history_is : (world : World) (lines : List Placed) (found : List Found) → AreFound world lines found → lines_fault world [] lines ≡ None →
-    history_of world lines ≡ joined_of world found
+pub history_is : (world : World) (lines : List NumberedLine) (found : List Found) → AreFound world lines found → lines_fault world [] lines ≡ None →
+    history_of world lines ≡ joined_lines world found
 history_is world lines found are none =
     ap (if_sound world lines) none
     ∙ go (fun_ext (has_row_is world lines found are)) (fun_ext (cells_is world lines found are))
   where
     step : (o : Option ℕ) → flat_map (row_cells world lines) (rows_of world) ≡ flat_map (cells_at found) (rows_of world) →
-        if_whole world lines o ≡ joined found (rows_of world) o
+        if_whole world lines o ≡ joined_rows found (rows_of world) o
     step None e = ap Ok e
     step (Some row) e = refl
 
-    go : have_row world lines ≡ has_row found → row_cells world lines ≡ cells_at found → if_sound world lines None ≡ joined_of world found
+    go : have_row world lines ≡ has_row found → row_cells world lines ≡ cells_at found → if_sound world lines None ≡ joined_lines world found
     go e f =
         ap (λ test. if_whole world lines (position (λ row. not (test row)) (rows_of world))) e
         ∙ step (position (λ row. not (has_row found row)) (rows_of world)) (ap (λ cells. flat_map cells (rows_of world)) f)

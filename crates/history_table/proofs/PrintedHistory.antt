@@ -16,17 +16,17 @@ use Rattle.trio_types.proofs.Lists.{all_from_each}
 use Rattle.trio_types.proofs.Specs.{Formed, formed_of, some_instant}
 use Rattle.trio_types.proofs.CellNumbers.{cell_at}
 use Rattle.trio_types.proofs.CellOrder.{cell_once}
-use Rattle.trio_print.specs.Pieces.{Piece, text_of}
+use Rattle.trio_print.specs.Pieces.{Piece, pieces_text}
 use Rattle.trio_print.proofs.Spaced.{are_spaced}
 use Rattle.trio_print.proofs.Printed.{tokens_of, spaced_tokens}
 use Rattle.history_table.specs.declared.fault.HistFault.TheVariants as fault
 use Rattle.history_table.specs.declared.line.Line.{Line}
 use Rattle.history_table.specs.declared.lines.Found.{Found}
-use Rattle.history_table.specs.Lines.{Numbered, Placed, AreRead}
+use Rattle.history_table.specs.Lines.{Numbered, NumberedLine, AreRead}
 use Rattle.history_table.specs.Rows.{named_row, same_row, is_outside}
-use Rattle.history_table.specs.History.{row_fault, is_named, names, have_row, lines_fault, first_of, Says, IsGivenText, OneHistory}
+use Rattle.history_table.specs.History.{row_fault, is_named, names, have_row, lines_fault, first_of, SaysHistory, IsGivenText, OneHistory}
 use Rattle.history_table.specs.Fitting.{IsGiven, is_below}
-use Rattle.history_table.specs.Decoding.{AreFound, has_row, row_of, cells_found, cells_at, joined}
+use Rattle.history_table.specs.Decoding.{AreFound, has_row, row_from, cells_found, cells_at, joined_rows}
 use Rattle.history_table.specs.Texts.{given_text}
 use Rattle.history_table.proofs.Tables.{known_within}
 use Rattle.history_table.proofs.LineRuns.{eq_true, eq_from}
@@ -131,7 +131,7 @@ rows_fit p f (row ∷ rows) given each whole below =
 
 -- ---- the lines are found
 
-placed_lines : ℕ → List Line → List Placed
+placed_lines : ℕ → List Line → List NumberedLine
 placed_lines n [] = []
 placed_lines n (line ∷ lines) = record { number = n; line = Some line } ∷ placed_lines (n + 1) lines
 
@@ -173,7 +173,7 @@ sound_line w taken number row es line fit once =
     ∙ sound_row (taken row) (length line.entries == w.instants) number (position (is_outside w row.item) line.entries) once (eq_true (length line.entries) w.instants fit.sized) fit.inside
 
 -- no line has one of these rows
-abbrev none_has : World → List Placed → List Row → Bool
+abbrev none_has : World → List NumberedLine → List Row → Bool
 none_has w lines rows = list_all (λ row. not (have_row w lines row)) rows
 
 neither : (a b : Bool) → not a ≡ true → not b ≡ true → not (a || (b || false)) ≡ true
@@ -181,12 +181,12 @@ neither true b none other = absurd (false≢true none)
 neither false true none other = absurd (false≢true other)
 neither false false none other = refl
 
-none_has_more : (w : World) (earlier : List Placed) (number : ℕ) (line : Line) (row : Row) (rows : List Row) → named_row w line ≡ Some row →
+none_has_more : (w : World) (earlier : List NumberedLine) (number : ℕ) (line : Line) (row : Row) (rows : List Row) → named_row w line ≡ Some row →
     none_has w earlier rows ≡ true → list_all (λ other. not (same_row row other)) rows ≡ true →
     none_has w (earlier ++ record { number = number; line = Some line } ∷ []) rows ≡ true
 none_has_more w earlier number line row [] named none apart = refl
 none_has_more w earlier number line row (other ∷ rows) named none apart =
-    let placed : Placed = record { number = number; line = Some line } in
+    let placed : NumberedLine = record { number = number; line = Some line } in
     let old = and_parts (not (have_row w earlier other)) (none_has w earlier rows) none in
     let new = and_parts (not (same_row row other)) (list_all (λ other. not (same_row row other)) rows) apart in
     let here : have_row w (earlier ++ placed ∷ []) other ≡ (have_row w earlier other || (same_row row other || false)) =
@@ -195,7 +195,7 @@ none_has_more w earlier number line row (other ∷ rows) named none apart =
     (ap not here ∙ neither (have_row w earlier other) (same_row row other) old.0 new.0)
     (none_has_more w earlier number line row rows named old.1 new.1)
 
-are_sound : (w : World) (earlier : List Placed) (n : ℕ) (rows : List Row) (given : List (Option ℕ)) → RowsFit w rows given → Apart rows → none_has w earlier rows ≡ true →
+are_sound : (w : World) (earlier : List NumberedLine) (n : ℕ) (rows : List Row) (given : List (Option ℕ)) → RowsFit w rows given → Apart rows → none_has w earlier rows ≡ true →
     lines_fault w earlier (placed_lines n (written_lines w rows given)) ≡ None
 unfolding RowsFit Apart placed_lines lines_fault
 are_sound w earlier n [] given fit apart none = refl
@@ -203,7 +203,7 @@ are_sound w earlier n (row ∷ rows) given fit apart none =
     let es : List (Option ℕ) = take w.instants given in
     let left : List (Option ℕ) = drop w.instants given in
     let line : Line = written_line w row es in
-    let now : List Placed = earlier ++ record { number = n; line = Some line } ∷ [] in
+    let now : List NumberedLine = earlier ++ record { number = n; line = Some line } ∷ [] in
     let old = and_parts (not (have_row w earlier row)) (none_has w earlier rows) none in
     let once : have_row w earlier row ≡ false = not-true (have_row w earlier row) old.0 in
     ap (λ g. first_of g (lines_fault w now (placed_lines (n + 1) (written_lines w rows left)))) (sound_line w (have_row w earlier) n row es line fit.0 once)
@@ -220,7 +220,7 @@ still_has f found [] all = refl
 still_has f found (row ∷ rows) all =
     let both = and_parts (has_row found row) (list_all (has_row found) rows) all in
     and_from (has_row (f ∷ found) row) (list_all (has_row (f ∷ found)) rows)
-    (ap (λ b. same_row (row_of f.row) row || b) both.0 ∙ or_true (same_row (row_of f.row) row)) (still_has f found rows both.1)
+    (ap (λ b. same_row (row_from f.row) row || b) both.0 ∙ or_true (same_row (row_from f.row) row)) (still_has f found rows both.1)
   where
     or_true : (a : Bool) → (a || true) ≡ true
     or_true true = refl
@@ -243,13 +243,13 @@ no_place test n (row ∷ rows) all =
 
 -- ---- each row's cells are those of its line
 
-cells_behind : (f : Found) (found : List Found) (rows : List Row) → list_all (λ other. not (same_row (row_of f.row) other)) rows ≡ true →
+cells_behind : (f : Found) (found : List Found) (rows : List Row) → list_all (λ other. not (same_row (row_from f.row) other)) rows ≡ true →
     flat_map (cells_at (f ∷ found)) rows ≡ flat_map (cells_at found) rows
 cells_behind f found [] apart = refl
 cells_behind f found (row ∷ rows) apart =
-    let both = and_parts (not (same_row (row_of f.row) row)) (list_all (λ other. not (same_row (row_of f.row) other)) rows) apart in
+    let both = and_parts (not (same_row (row_from f.row) row)) (list_all (λ other. not (same_row (row_from f.row) other)) rows) apart in
     ap₂ (λ x y. x ++ y)
-    (ap cells_found (cond-false (same_row (row_of f.row) row) (Some f) (find (λ g. same_row (row_of g.row) row) found) (not-true (same_row (row_of f.row) row) both.0)))
+    (ap cells_found (cond-false (same_row (row_from f.row) row) (Some f) (find (λ g. same_row (row_from g.row) row) found) (not-true (same_row (row_from f.row) row) both.0)))
     (cells_behind f found rows both.1)
 
 cells_back : (w : World) (rows : List Row) (given : List (Option ℕ)) → RowsFit w rows given → Apart rows → flat_map (cells_at (found_lines w rows given)) rows ≡ given
@@ -260,14 +260,14 @@ cells_back w (row ∷ rows) given fit apart =
     let left : List (Option ℕ) = drop w.instants given in
     let found : List Found = found_lines w rows left in
     let f : Found = found_line row es in
-    ap₂ (λ x y. x ++ y) (ap cells_found (cond-true (same_row row row) (Some f) (find (λ g. same_row (row_of g.row) row) found) (same_row_self row)))
+    ap₂ (λ x y. x ++ y) (ap cells_found (cond-true (same_row row row) (Some f) (find (λ g. same_row (row_from g.row) row) found) (same_row_self row)))
     (cells_behind f found rows apart.0 ∙ cells_back w rows left fit.1 apart.1)
     ∙ take-append-drop w.instants given
 
 -- ---- the whole text
 
 pub printed_says : (p : Parts) → Formed p → (given : List (Option ℕ)) → IsGiven (world_of_parts p) given →
-    Says (world_of_parts p) (given_text (world_of_parts p) given) (Ok given)
+    SaysHistory (world_of_parts p) (given_text (world_of_parts p) given) (Ok given)
 unfolding cells_of
 printed_says p f given is =
     let w : World = world_of_parts p in
@@ -279,16 +279,16 @@ printed_says p f given is =
     let apart = apart_from rows (rows_once p f) in
     let spaced : are_spaced pieces ≡ true = lines_spaced lines (are_writable w rows given fit) in
     let none : position (λ row. not (has_row found row)) rows ≡ None = position_from-zero (λ row. not (has_row found row)) rows ∙ no_place (has_row found) 0 rows (all_have w rows given) in
-    let says : Says w (text_of pieces) (Ok given) = record {
+    let says : SaysHistory w (pieces_text pieces) (Ok given) = record {
       tokens = tokens_of 0 1 pieces;
       lexed = spaced_tokens pieces spaced;
       lines = placed_lines 1 lines;
       read = subst (λ (ns : List Numbered). AreRead ns (placed_lines 1 lines)) (sym (read_one_by_one lines spaced)) (are_read 1 lines);
       answered =
           history_is w (placed_lines 1 lines) found (are_found w 1 rows given fit) (are_sound w [] 1 rows given fit apart (nothing_has w rows))
-          ∙ ap (joined found rows) none ∙ ap Ok (cells_back w rows given fit apart);
+          ∙ ap (joined_rows found rows) none ∙ ap Ok (cells_back w rows given fit apart);
     } in
-    subst (λ (text : List ℕ). Says w text (Ok given)) (lines_said w rows given) says
+    subst (λ (text : List ℕ). SaysHistory w text (Ok given)) (lines_said w rows given) says
 
 -- and no other, since a text is one given history at most
 pub printed_history : OneHistory → PrintedHistoryLaw

@@ -26,7 +26,8 @@ use Rattle.history_table.specs.declared.line.Line.{Line}
 use Rattle.history_table.specs.Printed.{name_of_item}
 use Rattle.history_table.specs.Texts.{value_domain}
 use Rattle.history_table.specs.Fitting.{is_below}
-use Rattle.history_table.specs.Rows.{index_in, index_in_domain, value_index, arg_indexes, args_of, item_named, row_of_item, named_row, index_for, entry_cell, is_outside, known_index}
+use Rattle.history_table.specs.Rows.{index_in, index_in_domain, value_index, arg_indexes, item_named, row_of_item, named_row, index_for, entry_cell, is_outside, known_index}
+use Rattle.trio_types.specs.Kinds.{args_of}
 use Rattle.history_table.specs.History.{known_cells}
 use Rattle.history_table.proofs.KnownNames.{place_of_name, item_found, item_is_named, KnownWords, words_known}
 use Rattle.history_table.proofs.LinePieces.{is_writable, is_entry, Writable}

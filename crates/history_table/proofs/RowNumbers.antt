@@ -26,7 +26,7 @@ use Rattle.history_table.specs.declared.line.Value.TheVariants as written
 use Rattle.history_table.specs.declared.rows.RowParts.{RowParts}
 use Rattle.history_table.specs.declared.lines.Found.{Found}
 use Rattle.history_table.specs.Rows.{index_in, index_in_domain, value_index}
-use Rattle.history_table.specs.Decoding.{row_of, cells_at, has_row, joined, joined_of}
+use Rattle.history_table.specs.Decoding.{row_from, cells_at, has_row, joined_rows, joined_lines}
 use Rattle.history_table.specs.declared.fault.HistFault.TheVariants as fault
 
 pub there : {A : Type 0} (xs : List A) (k : ℕ) → k < length xs → (x : A) × (slice_get xs k ≡ Some x)
@@ -58,22 +58,22 @@ row_is spec k item args instant f is =
     f.stands ∙ ap₂ (λ i vs. Some (record { item = i; args = vs })) (ap (λ (c : Cell). c.item) same) (ap (λ (c : Cell). c.args) same)
 
 -- one row more
-pub row_more : (spec : Spec) (rows : List RowParts) (k : ℕ) (parts : RowParts) → map row_of rows ≡ take k (rows_of (world_of spec)) →
-    slice_get (rows_of (world_of spec)) k ≡ Some (row_of parts) → map row_of (rows ++ parts ∷ []) ≡ take (k + 1) (rows_of (world_of spec))
+pub row_more : (spec : Spec) (rows : List RowParts) (k : ℕ) (parts : RowParts) → map row_from rows ≡ take k (rows_of (world_of spec)) →
+    slice_get (rows_of (world_of spec)) k ≡ Some (row_from parts) → map row_from (rows ++ parts ∷ []) ≡ take (k + 1) (rows_of (world_of spec))
 row_more spec rows k parts so_far at =
     let all = rows_of (world_of spec) in
-    let row = row_of parts in
-    map-append row_of rows (parts ∷ []) ∙ ap₂ (λ xs x. xs ++ x ∷ []) so_far (sym (get_or_from_slice_get all k row row at))
+    let row = row_from parts in
+    map-append row_from rows (parts ∷ []) ∙ ap₂ (λ xs x. xs ++ x ∷ []) so_far (sym (get_or_from_slice_get all k row row at))
     ∙ sym (take_more all k row (slice_get_within all k row at))
 
 -- what is gathered, one row more
 pub gather_more : (found : List Found) (rows : List RowParts) (i : ℕ) (row : RowParts) (given now : List (Option ℕ)) → i < length rows → row ≡ get_or rows i row →
-    given ≡ flat_map (λ r. cells_at found (row_of r)) (take i rows) → now ≡ given ++ cells_at found (row_of row) →
-    now ≡ flat_map (λ r. cells_at found (row_of r)) (take (i + 1) rows)
+    given ≡ flat_map (λ r. cells_at found (row_from r)) (take i rows) → now ≡ given ++ cells_at found (row_from row) →
+    now ≡ flat_map (λ r. cells_at found (row_from r)) (take (i + 1) rows)
 gather_more found rows i row given now less is before more =
-    more ∙ ap₂ ◌++◌ before (ap (λ r. cells_at found (row_of r)) is ∙ sym (append-nil _))
-    ∙ sym (flat_map-append (λ r. cells_at found (row_of r)) (take i rows) (get_or rows i row ∷ []))
-    ∙ ap (flat_map (λ r. cells_at found (row_of r))) (sym (take_more rows i row less))
+    more ∙ ap₂ ◌++◌ before (ap (λ r. cells_at found (row_from r)) is ∙ sym (append-nil _))
+    ∙ sym (flat_map-append (λ r. cells_at found (row_from r)) (take i rows) (get_or rows i row ∷ []))
+    ∙ ap (flat_map (λ r. cells_at found (row_from r))) (sym (take_more rows i row less))
 
 -- an index is below the number of values
 number_within : (values : List ℤ) (z : ℤ) (k : ℕ) → index_of values z ≡ Some k → k < length values
@@ -121,23 +121,23 @@ flat_map-map : {A B C : Type 0} (f : A → B) (g : B → List C) (xs : List A) �
 flat_map-map f g [] = refl
 flat_map-map f g (x ∷ xs) = ap (λ ys. g (f x) ++ ys) (flat_map-map f g xs)
 
-joined_at : (w : World) (found : List Found) (rows : List RowParts) → map row_of rows ≡ rows_of w →
-    joined_of w found ≡ joined found (map row_of rows) (position (λ r. not (has_row found (row_of r))) rows)
+joined_at : (w : World) (found : List Found) (rows : List RowParts) → map row_from rows ≡ rows_of w →
+    joined_lines w found ≡ joined_rows found (map row_from rows) (position (λ r. not (has_row found (row_from r))) rows)
 joined_at w found rows is =
-    ap (λ rs. joined found rs (position (λ r. not (has_row found r)) rs)) (sym is)
-    ∙ ap (joined found (map row_of rows)) (position-map row_of (λ r. not (has_row found r)) rows)
+    ap (λ rs. joined_rows found rs (position (λ r. not (has_row found r)) rs)) (sym is)
+    ∙ ap (joined_rows found (map row_from rows)) (position-map row_from (λ r. not (has_row found r)) rows)
 
-pub joined_missing : (w : World) (found : List Found) (rows : List RowParts) (row : ℕ) → map row_of rows ≡ rows_of w →
-    Some row ≡ position (λ r. not (has_row found (row_of r))) rows → joined_of w found ≡ Err (fault.MissingRow row)
-joined_missing w found rows row is at = joined_at w found rows is ∙ ap (joined found (map row_of rows)) (sym at)
+pub joined_missing : (w : World) (found : List Found) (rows : List RowParts) (row : ℕ) → map row_from rows ≡ rows_of w →
+    Some row ≡ position (λ r. not (has_row found (row_from r))) rows → joined_lines w found ≡ Err (fault.MissingRow row)
+joined_missing w found rows row is at = joined_at w found rows is ∙ ap (joined_rows found (map row_from rows)) (sym at)
 
-pub joined_whole : (w : World) (found : List Found) (rows : List RowParts) (given : List (Option ℕ)) → map row_of rows ≡ rows_of w →
-    None ≡ position (λ r. not (has_row found (row_of r))) rows → given ≡ flat_map (λ r. cells_at found (row_of r)) rows → joined_of w found ≡ Ok given
+pub joined_whole : (w : World) (found : List Found) (rows : List RowParts) (given : List (Option ℕ)) → map row_from rows ≡ rows_of w →
+    None ≡ position (λ r. not (has_row found (row_from r))) rows → given ≡ flat_map (λ r. cells_at found (row_from r)) rows → joined_lines w found ≡ Ok given
 joined_whole w found rows given is none gathered =
-    joined_at w found rows is ∙ ap (joined found (map row_of rows)) (sym none) ∙ ap Ok (flat_map-map row_of (cells_at found) rows ∙ sym gathered)
+    joined_at w found rows is ∙ ap (joined_rows found (map row_from rows)) (sym none) ∙ ap Ok (flat_map-map row_from (cells_at found) rows ∙ sym gathered)
 
-pub few_rows : (spec : Spec) (rows : List RowParts) → map row_of rows ≡ rows_of (world_of spec) → length rows ≤ 1024
+pub few_rows : (spec : Spec) (rows : List RowParts) → map row_from rows ≡ rows_of (world_of spec) → length rows ≤ 1024
 few_rows spec rows is =
-    let whole = length-map rows row_of in
+    let whole = length-map rows row_from in
     let same = ap length is in
     omega (arith, whole, same, rows_few (parts_of spec) (formed spec))

@@ -10,7 +10,7 @@ use Rattle.trio_text.specs.declared.lexeme.Lexeme.TheVariants as lexeme
 use Rattle.history_table.specs.declared.line.Value.{Value}
 use Rattle.history_table.specs.declared.line.Value.TheVariants as written
 use Rattle.history_table.specs.declared.line.Line.{Line}
-use Rattle.history_table.specs.Spelled.{value_tokens, entry_tokens, more_tokens, args_tokens, line_tokens, Reads}
+use Rattle.history_table.specs.Spelled.{value_tokens, entry_tokens, more_tokens, args_tokens, line_tokens, ReadsLine}
 use Rattle.history_table.specs.Decoding.{entries_of, with_entry, args_from, with_arg, args_front, with_entries, line_of}
 
 -- from a line to its tokens and back
@@ -157,14 +157,14 @@ line_forth (lexeme.Name name ∷ x) line is = go (args_front x) refl is
         ∙ ap (λ vs. lexeme.Name line.name ∷ args_tokens vs ++ lexeme.Sign symbol.Colon ∷ flat_map entry_tokens line.entries) (sym w.1)
 line_forth x line is = cc
 
-pub reads_line : (x : List Lexeme) → Reads x (line_of x)
+pub reads_line : (x : List Lexeme) → ReadsLine x (line_of x)
 reads_line x = go (line_of x) refl
   where
-    go : (o : Option Line) → line_of x ≡ o → Reads x o
+    go : (o : Option Line) → line_of x ≡ o → ReadsLine x o
     go None e = λ line is. let back : ◌≡◌ {A = Option Line} None (Some line) = sym e ∙ ap line_of is ∙ line_back line in cc
     go (Some line) e = line_forth x line e
 
-pub reads_once : (x : List Lexeme) (o : Option Line) → Reads x o → line_of x ≡ o
+pub reads_once : (x : List Lexeme) (o : Option Line) → ReadsLine x o → line_of x ≡ o
 reads_once x (Some line) is = ap line_of is ∙ line_back line
 reads_once x None none = go (line_of x) refl
   where

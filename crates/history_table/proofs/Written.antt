@@ -14,13 +14,13 @@ use Rattle.trio_types.specs.declared.spec.DomainKind.TheVariants as kind
 use Rattle.trio_types.specs.declared.spec.Domain.{Domain}
 use Rattle.trio_types.specs.World.{World}
 use Rattle.trio_types.specs.Cells.{Row}
-use Rattle.trio_print.specs.Pieces.{token, line_end, piece_text, text_of}
+use Rattle.trio_print.specs.Pieces.{token, line_end, piece_text, pieces_text}
 use Rattle.history_table.specs.declared.line.Value.{Value}
 use Rattle.history_table.specs.declared.line.Value.TheVariants as written
 use Rattle.history_table.specs.declared.line.Line.{Line}
 use Rattle.history_table.specs.Spelled.{value_tokens, entry_tokens, more_tokens, args_tokens}
 use Rattle.history_table.specs.Printed.{text_in, text_in_domain, value_text, values_text, args_text, name_of_item}
-use Rattle.history_table.specs.Rows.{args_of}
+use Rattle.trio_types.specs.Kinds.{args_of}
 use Rattle.history_table.specs.Texts.{value_domain, entry_text, entry_behind_blank, line_text, lines_text}
 use Rattle.history_table.proofs.LinePieces.{entry_pieces, behind_args, line_front, line_pieces}
 
@@ -64,11 +64,11 @@ written_lines w (row ∷ rows) given = written_line w row (take w.instants given
 -- ---- values
 
 says : List Lexeme → List ℕ
-says xs = text_of (map token xs)
+says xs = pieces_text (map token xs)
 
 says-append : (xs ys : List Lexeme) → says (xs ++ ys) ≡ says xs ++ says ys
 unfolding says
-says-append xs ys = ap text_of (map-append token xs ys) ∙ flat_map-append piece_text (map token xs) (map token ys)
+says-append xs ys = ap pieces_text (map-append token xs ys) ∙ flat_map-append piece_text (map token xs) (map token ys)
 
 integer_said : (z : ℤ) → says (value_tokens (written_integer z)) ≡ signed_decimal z
 unfolding says
@@ -117,7 +117,7 @@ unfolding says
 entry_said w d None = refl
 entry_said w d (Some v) = value_said w d v
 
-entries_said : (w : World) (d : ℕ) (es : List (Option ℕ)) → text_of (flat_map entry_pieces (written_entries w d es)) ≡ flat_map (entry_behind_blank w d) es
+entries_said : (w : World) (d : ℕ) (es : List (Option ℕ)) → pieces_text (flat_map entry_pieces (written_entries w d es)) ≡ flat_map (entry_behind_blank w d) es
 unfolding says
 entries_said w d [] = refl
 entries_said w d (e ∷ es) =
@@ -127,7 +127,7 @@ entries_said w d (e ∷ es) =
 
 -- ---- lines
 
-line_said : (w : World) (row : Row) (es : List (Option ℕ)) → text_of (line_pieces (written_line w row es)) ≡ line_text w row es
+line_said : (w : World) (row : Row) (es : List (Option ℕ)) → pieces_text (line_pieces (written_line w row es)) ≡ line_text w row es
 unfolding says
 line_said w row es =
     let line : Line = written_line w row es in
@@ -142,7 +142,7 @@ line_said w row es =
     ∙ append_assoc name (args ++ (58 ∷ entries)) (10 ∷ []) ∙ ap (λ t. name ++ t) (append_assoc args (58 ∷ entries) (10 ∷ []))
     ∙ sym (append_assoc name args (58 ∷ (entries ++ 10 ∷ [])))
 
-pub lines_said : (w : World) (rows : List Row) (given : List (Option ℕ)) → text_of (flat_map line_pieces (written_lines w rows given)) ≡ lines_text w rows given
+pub lines_said : (w : World) (rows : List Row) (given : List (Option ℕ)) → pieces_text (flat_map line_pieces (written_lines w rows given)) ≡ lines_text w rows given
 lines_said w [] given = refl
 lines_said w (row ∷ rows) given =
     flat_map-append piece_text (line_pieces (written_line w row (take w.instants given))) (flat_map line_pieces (written_lines w rows (drop w.instants given)))

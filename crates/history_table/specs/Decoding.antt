@@ -16,7 +16,7 @@ use Rattle.history_table.specs.declared.line.Value.TheVariants as written
 use Rattle.history_table.specs.declared.line.Line.{Line}
 use Rattle.history_table.specs.declared.lines.Found.{Found}
 use Rattle.history_table.specs.declared.rows.RowParts.{RowParts}
-use Rattle.history_table.specs.Lines.{Numbered, Placed, with_lexeme}
+use Rattle.history_table.specs.Lines.{Numbered, NumberedLine, with_lexeme}
 use Rattle.history_table.specs.Rows.{named_row, same_row}
 use Rattle.history_table.specs.History.{known_cells}
 
@@ -92,7 +92,7 @@ TookEntry before after None = entries_of before ≡ None
 TookEntry before after (Some entry) = (length after < length before) × (entries_of before ≡ with_entry entry (entries_of after))
 
 -- what these lines read as
-abbrev pub placed_of : List Numbered → List Placed
+abbrev pub placed_of : List Numbered → List NumberedLine
 placed_of lines = map (λ n. record { number = n.number; line = line_of n.tokens }) lines
 
 -- the lines of tokens that say these lexemes
@@ -101,22 +101,22 @@ lines_by (token ∷ tokens) (x ∷ xs) = with_lexeme token.line x (lines_by toke
 lines_by tokens xs = []
 
 -- a row as the reader keeps it
-abbrev pub row_of : RowParts → Row
-row_of parts = record { item = parts.item; args = parts.args }
+abbrev pub row_from : RowParts → Row
+row_from parts = record { item = parts.item; args = parts.args }
 
 -- a line without fault: it names this row, and gives its cells this
 pub record IsFound (world : World) (line : Option Line) (found : Found) : Type 0 where
-  pub row : option_and_then (named_row world) line ≡ Some (row_of found.row)
+  pub row : option_and_then (named_row world) line ≡ Some (row_from found.row)
   pub cells : known_cells world found.row.item line ≡ found.cells
 
 -- these lines were found
-abbrev pub AreFound : World → List Placed → List Found → Type 0
+abbrev pub AreFound : World → List NumberedLine → List Found → Type 0
 AreFound world [] [] = Unit {0}
 AreFound world (l ∷ ls) (f ∷ fs) = IsFound world l.line f × AreFound world ls fs
 AreFound world ls fs = ⊥
 
 abbrev pub has_row : List Found → Row → Bool
-has_row found row = list_any (λ f. same_row (row_of f.row) row) found
+has_row found row = list_any (λ f. same_row (row_from f.row) row) found
 
 -- this is the fault found, or memory was wanting
 abbrev pub IsFault : Option HistFault → HistFault → Type 0
@@ -129,17 +129,17 @@ cells_found (Some f) = f.cells
 
 -- what the line that names this row gives its cells
 abbrev pub cells_at : List Found → Row → List (Option ℕ)
-cells_at found row = cells_found (find (λ f. same_row (row_of f.row) row) found)
+cells_at found row = cells_found (find (λ f. same_row (row_from f.row) row) found)
 
-abbrev pub joined : List Found → List Row → Option ℕ → Result (List (Option ℕ)) HistFault
-joined found rows None = Ok (flat_map (cells_at found) rows)
-joined found rows (Some row) = Err (fault.MissingRow row)
+abbrev pub joined_rows : List Found → List Row → Option ℕ → Result (List (Option ℕ)) HistFault
+joined_rows found rows None = Ok (flat_map (cells_at found) rows)
+joined_rows found rows (Some row) = Err (fault.MissingRow row)
 
 -- the given history of lines without fault, or the first row without one
-abbrev pub joined_of : World → List Found → Result (List (Option ℕ)) HistFault
-joined_of world found = joined found (rows_of world) (position (λ row. not (has_row found row)) (rows_of world))
+abbrev pub joined_lines : World → List Found → Result (List (Option ℕ)) HistFault
+joined_lines world found = joined_rows found (rows_of world) (position (λ row. not (has_row found row)) (rows_of world))
 
 -- this is the answer for these lines, or memory was wanting
 abbrev pub IsJoined : World → List Found → Result (List (Option ℕ)) HistFault → Type 0
 IsJoined world found (Err fault.Memory) = Unit {0}
-IsJoined world found answer = joined_of world found ≡ answer
+IsJoined world found answer = joined_lines world found ≡ answer

@@ -4,7 +4,7 @@ use Rattle.trio_text.specs.declared.token.Token.{Token}
 use Rattle.trio_text.specs.declared.lexeme.Lexeme.{Lexeme}
 use Rattle.trio_text.specs.Lexemes.{lexeme_of}
 use Rattle.history_table.specs.declared.line.Line.{Line}
-use Rattle.history_table.specs.Spelled.{Reads}
+use Rattle.history_table.specs.Spelled.{ReadsLine}
 
 -- a line that has tokens: its number, from 1, and what the tokens say
 pub record Numbered : Type 0 where
@@ -25,12 +25,12 @@ lines_of text [] = []
 lines_of text (token ∷ tokens) = with_lexeme token.line (lexeme_of text token) (lines_of text tokens)
 
 -- a line by its number, where it is one
-pub record Placed : Type 0 where
+pub record NumberedLine : Type 0 where
   pub number : ℕ
   pub line : Option Line
 
 -- the lines read as these
-abbrev pub AreRead : List Numbered → List Placed → Type 0
+abbrev pub AreRead : List Numbered → List NumberedLine → Type 0
 AreRead [] [] = Unit {0}
-AreRead (n ∷ ns) (l ∷ ls) = (l.number ≡ n.number) × Reads n.tokens l.line × AreRead ns ls
+AreRead (n ∷ ns) (l ∷ ls) = (l.number ≡ n.number) × ReadsLine n.tokens l.line × AreRead ns ls
 AreRead ns ls = ⊥

@@ -8,7 +8,7 @@ use Rattle.trio_types.specs.declared.spec.Domain.{Domain}
 use Rattle.trio_types.specs.declared.spec.Item.{Item}
 use Rattle.trio_types.specs.World.{World}
 use Rattle.trio_types.specs.Cells.{Row}
-use Rattle.history_table.specs.Rows.{args_of}
+use Rattle.trio_types.specs.Kinds.{args_of}
 
 -- the value of this index: `0` and `1` for bool, the number for a range, the word for a list
 abbrev pub text_in : DomainKind → ℕ → List ℕ

@@ -9,6 +9,7 @@ use Rattle.trio_types.specs.declared.spec.Item.{Item}
 use Rattle.trio_types.specs.World.{World, values_of}
 use Rattle.trio_types.specs.Values.{index_of}
 use Rattle.trio_types.specs.Cells.{Row}
+use Rattle.trio_types.specs.Kinds.{args_of}
 use Rattle.history_table.specs.declared.line.Value.{Value}
 use Rattle.history_table.specs.declared.line.Value.TheVariants as written
 use Rattle.history_table.specs.declared.line.Line.{Line}
@@ -37,10 +38,6 @@ arg_indexes world [] [] = Some []
 arg_indexes world (d ∷ ds) (value ∷ values) =
     option_and_then (λ v. option_map (λ vs. v ∷ vs) (arg_indexes world ds values)) (value_index world d value)
 arg_indexes world ds values = None
-
-abbrev pub args_of : Option Item → List ℕ
-args_of None = []
-args_of (Some item) = item.args
 
 -- the number of the item of this name
 abbrev pub item_named : World → List ℕ → Option ℕ

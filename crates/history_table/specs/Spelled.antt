@@ -37,6 +37,6 @@ line_tokens line =
     lexeme.Name line.name ∷ args_tokens line.args ++ lexeme.Sign symbol.Colon ∷ flat_map entry_tokens line.entries
 
 -- the tokens are this line, or no line
-abbrev pub Reads : List Lexeme → Option Line → Type 0
-Reads tokens (Some line) = tokens ≡ line_tokens line
-Reads tokens None = (line : Line) → tokens ≡ line_tokens line → ⊥
+abbrev pub ReadsLine : List Lexeme → Option Line → Type 0
+ReadsLine tokens (Some line) = tokens ≡ line_tokens line
+ReadsLine tokens None = (line : Line) → tokens ≡ line_tokens line → ⊥

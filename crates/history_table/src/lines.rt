@@ -3,7 +3,7 @@ ghost use Rattle.std.specs.Prelude.{◌≡◌, ◌==◌, ◌≤◌, [], length, 
 ghost use Rattle.std.specs.List.{list_any};
 ghost use Rattle.trio_types.specs.Verdict.{world_of};
 ghost use Rattle.history_table.specs.History.{row_fault, read_fault, lines_fault};
-ghost use Rattle.history_table.specs.Decoding.{line_of, lines_by, placed_of, IsFound, AreFound, has_row, row_of, IsFault};
+ghost use Rattle.history_table.specs.Decoding.{line_of, lines_by, placed_of, IsFound, AreFound, has_row, row_from, IsFault};
 
 use crate::fault::HistFault;
 use crate::line::Line;
@@ -96,7 +96,7 @@ fn read_line(
 
 /// Whether one of the lines is this row.
 pub fn has_row(found: &[Found], row: &RowParts) -> bool
-    ensures { result ≡ has_row found.now (row_of row.now) }
+    ensures { result ≡ has_row found.now (row_from row.now) }
 {
     found.iter().any(|line| line.row.is(row))
 }

@@ -7,7 +7,7 @@ ghost use Rattle.trio_types.specs.Verdict.{world_of};
 ghost use Rattle.trio_types.specs.Cells.{rows_of};
 ghost use Rattle.history_table.specs.Fitting.{IsGiven};
 ghost use Rattle.history_table.specs.Printed.{value_text, args_text, values_text, row_name};
-ghost use Rattle.history_table.specs.Decoding.{row_of};
+ghost use Rattle.history_table.specs.Decoding.{row_from};
 
 use crate::rows::{RowParts, row_parts};
 use std::alloc::{AllocError, Global};
@@ -32,7 +32,7 @@ pub fn add_name(
     spec: &Spec,
     row: &RowParts,
 ) -> Result<(), AllocError>
-    ensures { OnOk result (string_bytes text.new ≡ string_bytes text.old ++ row_name (world_of spec.now) (row_of row.now)) }
+    ensures { OnOk result (string_bytes text.new ≡ string_bytes text.old ++ row_name (world_of spec.now) (row_from row.now)) }
 {
     let Some(item) = spec.items.as_slice().get(row.item as usize) else {
         return Ok(());

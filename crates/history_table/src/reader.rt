@@ -6,7 +6,7 @@ ghost use Rattle.history_table.specs.Rows.{same_row};
 ghost use Rattle.trio_types.specs.Verdict.{world_of};
 ghost use Rattle.history_table.specs.History.{IsHistoryAnswer};
 ghost use Rattle.history_table.specs.Fitting.{IsGiven};
-ghost use Rattle.history_table.specs.Decoding.{cells_at, has_row, row_of, IsJoined};
+ghost use Rattle.history_table.specs.Decoding.{cells_at, has_row, row_from, IsJoined};
 
 use crate::fault::HistFault;
 use crate::given::Given;
@@ -45,7 +45,7 @@ fn joined(alloc: Global, spec: &Spec, found: &[Found]) -> Result<Given, HistFaul
 
 /// The place of the first row that none of the lines is.
 fn missing(found: &[Found], rows: &[RowParts]) -> Option<usize>
-    ensures is { result ≡ position (λ row. not (has_row found.now (row_of row))) rows.now }
+    ensures is { result ≡ position (λ row. not (has_row found.now (row_from row))) rows.now }
     ensures within { IfSome result (λ place. place < length rows.now) }
 {
     rows.iter().position(|row| !has_row(found, row))
@@ -53,7 +53,7 @@ fn missing(found: &[Found], rows: &[RowParts]) -> Option<usize>
 
 /// What the lines give the cells, row by row.
 fn gathered(alloc: Global, found: &[Found], rows: &[RowParts]) -> Result<Given, AllocError>
-    ensures { IfOk result (λ given. given ≡ flat_map (λ row. cells_at found.now (row_of row)) rows.now) }
+    ensures { IfOk result (λ given. given ≡ flat_map (λ row. cells_at found.now (row_from row)) rows.now) }
 {
     let mut given = Vec::new(alloc);
     for row in rows {
@@ -68,7 +68,7 @@ fn add_cells(
     found: &[Found],
     row: &RowParts,
 ) -> Result<(), AllocError>
-    ensures { OnOk result (given.new.items ≡ given.old.items ++ cells_at found.now (row_of row.now)) }
+    ensures { OnOk result (given.new.items ≡ given.old.items ++ cells_at found.now (row_from row.now)) }
 {
     match line_of_row(found, row) {
         Some(line) => append(given, line.cells.as_slice()),
@@ -87,7 +87,7 @@ fn append(given: &mut Vec<Option<u16>>, cells: &[Option<u16>]) -> Result<(), All
 
 /// The line that is this row.
 fn line_of_row<'a>(found: &'a [Found], row: &RowParts) -> Option<&'a Found>
-    ensures { option_copied result ≡ find (λ f. same_row (row_of f.row) (row_of row.now)) found.now }
+    ensures { option_copied result ≡ find (λ f. same_row (row_from f.row) (row_from row.now)) found.now }
 {
     found.iter().find(|line| line.row.is(row))
 }

@@ -2,9 +2,10 @@
 ghost use Rattle.std.specs.Prelude.{◌≡◌, ◌<◌, length, slice_get, position, is_none, map, IfOk, IfSome};
 ghost use Rattle.std.specs.Option.{option_and_then, option_map};
 ghost use Rattle.trio_types.specs.Verdict.{world_of};
-ghost use Rattle.history_table.specs.Rows.{index_in, value_index, args_of, arg_indexes, item_named, named_row, entry_cell, is_outside, known_index};
+ghost use Rattle.history_table.specs.Rows.{index_in, value_index, arg_indexes, item_named, named_row, entry_cell, is_outside, known_index};
+ghost use Rattle.trio_types.specs.Kinds.{args_of};
 ghost use Rattle.std.specs.Str.{bytes_eq};
-ghost use Rattle.history_table.specs.Decoding.{row_of};
+ghost use Rattle.history_table.specs.Decoding.{row_from};
 ghost use Rattle.trio_types.specs.Cells.{rows_of};
 
 use crate::line::{Line, Value};
@@ -71,7 +72,7 @@ fn arg_indexes(
 
 /// The row that a line names.
 pub fn named_row(alloc: Global, spec: &Spec, line: &Line) -> Result<Option<RowParts>, AllocError>
-    ensures named { IfOk result (λ row. option_map row_of row ≡ named_row (world_of spec.now) line.now) }
+    ensures named { IfOk result (λ row. option_map row_from row ≡ named_row (world_of spec.now) line.now) }
     ensures within { IfOk result (λ found. IfSome found (λ row. row.item < length spec.now.items)) }
 {
     let Some(item) = item_named(spec, line.name.as_str()) else {
@@ -102,7 +103,7 @@ fn item_named(spec: &Spec, name: &str) -> Option<u32>
 
 /// All rows of a specification in their order.
 pub fn all_rows(alloc: Global, spec: &Spec) -> Result<List<RowParts>, AllocError>
-    ensures { IfOk result (λ rows. map row_of rows ≡ rows_of (world_of spec.now)) }
+    ensures { IfOk result (λ rows. map row_from rows ≡ rows_of (world_of spec.now)) }
 {
     let mut rows = Vec::new(alloc);
     for row in 0..row_count(spec) {
@@ -121,7 +122,7 @@ pub fn row_count(spec: &Spec) -> u32
 /// The row of this number.
 pub fn row_parts(alloc: Global, spec: &Spec, row: u32) -> Result<RowParts, AllocError>
     requires { row < length (rows_of (world_of spec.now)) }
-    ensures { IfOk result (λ parts. slice_get (rows_of (world_of spec.now)) row ≡ Some (row_of parts)) }
+    ensures { IfOk result (λ parts. slice_get (rows_of (world_of spec.now)) row ≡ Some (row_from parts)) }
 {
     let cell = cell_parts(spec, row * spec.instants);
     let args = List::from_slice(alloc, &cell.args[..cell.arity as usize])?;
@@ -134,11 +135,11 @@ pub fn row_parts(alloc: Global, spec: &Spec, row: u32) -> Result<RowParts, Alloc
 impl RowParts {
     ghost use Rattle.std.specs.Prelude.{◌≡◌};
     ghost use Rattle.history_table.specs.Rows.{same_row};
-    ghost use Rattle.history_table.specs.Decoding.{row_of};
+    ghost use Rattle.history_table.specs.Decoding.{row_from};
 
     /// Whether it is the same row.
     pub fn is(&self, other: &RowParts) -> bool
-        ensures { result ≡ same_row (row_of self.now) (row_of other.now) }
+        ensures { result ≡ same_row (row_from self.now) (row_from other.now) }
     {
         self.item == other.item && self.args.as_slice() == other.args.as_slice()
     }

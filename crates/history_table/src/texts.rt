@@ -4,7 +4,7 @@ ghost use Rattle.std.specs.List.{flat_map, enumerate_from, list_all};
 ghost use Rattle.trio_types.specs.Verdict.{world_of};
 ghost use Rattle.trio_types.specs.Cells.{cells_of};
 ghost use Rattle.history_table.specs.Texts.{value_domain, entry_behind_blank, entry_text, line_text, lines_text, given_text, table_text, list_text, numbered_text};
-ghost use Rattle.history_table.specs.Decoding.{row_of};
+ghost use Rattle.history_table.specs.Decoding.{row_from};
 
 use crate::given::Given;
 use crate::printing::{add_name, add_value};
@@ -99,7 +99,7 @@ fn add_line(
     row: &RowParts,
     entries: &[Option<u16>],
 ) -> Result<(), AllocError>
-    ensures { OnOk result (string_bytes text.new ≡ string_bytes text.old ++ line_text (world_of spec.now) (row_of row.now) entries.now) }
+    ensures { OnOk result (string_bytes text.new ≡ string_bytes text.old ++ line_text (world_of spec.now) (row_from row.now) entries.now) }
 {
     add_name(alloc, text, spec, row)?;
     text.push_str(":")?;

@@ -12,7 +12,7 @@ use Rattle.trio_types.specs.Bounds.{greatest}
 use Rattle.trio_types.specs.Nest.{in_brackets}
 use Rattle.trio_types.proofs.Lists.{map_same}
 use Rattle.trio_print.specs.Pieces.{Piece, token, blank, line_end, lexemes_in}
-use Rattle.trio_print.specs.Canonical.{in_round, in_square, joined, comma, listed}
+use Rattle.trio_print.specs.Canonical.{in_round, in_square, joined_pieces, comma, listed_pieces}
 use Rattle.trio_canonical.specs.Brackets.{most_open}
 
 -- the most that are open before, at or behind these tokens, where so many are open before them
@@ -166,11 +166,11 @@ module _ {A : Type 0} (text : A → List Piece) (nest : A → ℕ) (each : (x : 
   later between gap [] = empty
   later between gap (x ∷ xs) = both (before gap (each x)) (later between gap xs)
 
-  pub in_joined : (between : List Piece) → Nests between 0 → (xs : List A) → Nests (joined between (map text xs)) (greatest (map nest xs))
+  pub in_joined : (between : List Piece) → Nests between 0 → (xs : List A) → Nests (joined_pieces between (map text xs)) (greatest (map nest xs))
   in_joined between gap [] = empty
   in_joined between gap (x ∷ xs) = both (each x) (later between gap xs)
 
-  pub in_listed : (xs : List A) → Nests (listed (map text xs)) (in_brackets (map nest xs))
+  pub in_listed : (xs : List A) → Nests (listed_pieces (map text xs)) (in_brackets (map nest xs))
   in_listed [] = empty
   in_listed (x ∷ xs) = round (in_joined comma (flat comma refl) (x ∷ xs))
 

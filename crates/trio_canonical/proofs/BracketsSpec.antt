@@ -18,7 +18,7 @@ use Rattle.trio_syntax.specs.Depth.{first_deep}
 use Rattle.trio_syntax.specs.Words.{item_word, claim_word}
 use Rattle.trio_syntax.proofs.Depths.{deep_nowhere}
 use Rattle.trio_print.specs.Pieces.{Piece, blank, line_end, lexemes_in}
-use Rattle.trio_print.specs.Canonical.{sign, word_, name_, number_, spaced, joined, comma, listed, integer, ref, ended, values_text, domain_text, item_text, at_text, claim_text, spec_pieces}
+use Rattle.trio_print.specs.Canonical.{sign, word_, name_, number_, spaced, joined_pieces, comma, listed_pieces, integer, ref_pieces, ended, values_pieces, domain_text, item_text, at_text, claim_text, spec_pieces}
 use Rattle.trio_canonical.specs.Brackets.{NestIsMostOpen}
 use Rattle.trio_canonical.proofs.BracketsOpen.{Nests, nest_is_most, none_above, as_many, empty, both, before, behind, flat, in_row, in_joined, in_listed, greatest-zero}
 use Rattle.trio_canonical.proofs.BracketsTerms.{ref_nests}
@@ -31,11 +31,11 @@ integer_nests : (z : ℤ) → Nests (integer z) 0
 integer_nests (pos n) = flat (number_ n) refl
 integer_nests (negsuc n) = flat (sign symbol.Minus ++ number_ (n + 1)) refl
 
-values_nests : (values : DomainKind) → Nests (values_text values) 0
+values_nests : (values : DomainKind) → Nests (values_pieces values) 0
 values_nests kind.Bool = flat (word_ word.Bool) refl
 values_nests (kind.Range low high) = behind (behind (integer_nests low) (flat (sign symbol.Span) refl)) (integer_nests high)
 values_nests (kind.Words words) =
-    let names : Nests (joined comma (map name_ words)) 0 =
+    let names : Nests (joined_pieces comma (map name_ words)) 0 =
     as_many (greatest-zero words) (in_joined name_ (λ w. 0) (λ w. flat (name_ w) refl) comma (flat comma refl) words) in
     behind (before (flat (sign symbol.LeftBrace) refl) names) (flat (sign symbol.RightBrace) refl)
 
@@ -48,8 +48,8 @@ brackets_of item (d ∷ ds) is = rw is (omega (arith, greatest-zero ds))
 
 item_nests : (parts : Parts) (item : Item) → Nests (item_text parts item) (item_nest item)
 item_nests parts item =
-    let args : Nests (listed (map (ref parts) item.args)) (item_nest item) =
-    as_many (brackets_of item item.args refl) (in_listed (ref parts) (λ d. 0) (ref_nests parts) item.args) in
+    let args : Nests (listed_pieces (map (ref_pieces parts) item.args)) (item_nest item) =
+    as_many (brackets_of item item.args refl) (in_listed (ref_pieces parts) (λ d. 0) (ref_nests parts) item.args) in
     ended_nests (behind (behind (before (flat (word_ (item_word item.input) ++ blank ∷ name_ item.name) refl) args) (flat (spaced symbol.Colon) refl)) (ref_nests parts item.value))
 
 at_nests : (at : Option ℕ) → Nests (at_text at) 0

@@ -16,7 +16,7 @@ use Rattle.trio_types.specs.Nest.{TermNest, in_brackets, nest_of_term, term_nest
 use Rattle.trio_types.specs.Parts.{Parts}
 use Rattle.trio_types.proofs.Lists.{map-map}
 use Rattle.trio_syntax.specs.Words.{truth_word, adding_sign}
-use Rattle.trio_print.specs.Canonical.{Printed, TermText, PartText, sign, word_, name_, number_, spaced, ref, constant, same_text, sum_text, later_part, read_text, product_text, term_text, part_text, text_of_term}
+use Rattle.trio_print.specs.Canonical.{Printed, TermText, PartText, sign, word_, name_, number_, spaced, ref_pieces, constant, same_text, sum_text, later_part, read_text, product_text, term_text, part_text, text_of_term}
 use Rattle.trio_canonical.proofs.BracketsOpen.{Nests, empty, both, before, either, square, flat, in_listed}
 
 -- each of a term's texts has as many open as is counted for it
@@ -46,7 +46,7 @@ SomeTerm parts = Such the_family (claims (TermFine parts) (PartFine parts)) memb
 abbrev SomePart : Parts → Type 0
 SomePart parts = Such the_family (claims (TermFine parts) (PartFine parts)) member-SignedTerm
 
-pub ref_nests : (parts : Parts) (d : ℕ) → Nests (ref parts d) 0
+pub ref_nests : (parts : Parts) (d : ℕ) → Nests (ref_pieces parts d) 0
 ref_nests parts d = either (d == 0) (flat (word_ word.Bool) refl) (flat (name_ _) refl)
 
 constant_nests : (parts : Parts) (d v : ℕ) → Nests (constant parts d v) 0

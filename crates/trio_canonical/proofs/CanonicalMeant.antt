@@ -12,7 +12,7 @@ use Rattle.trio_types.specs.declared.spec.Domain.{Domain}
 use Rattle.trio_types.specs.declared.spec.Item.{Item}
 use Rattle.trio_types.specs.declared.spec.Axiom.{Axiom}
 use Rattle.trio_types.specs.Parts.{Parts, claims_of}
-use Rattle.trio_types.specs.Names.{words_of as words_of_kind, names_of_domain, declared_names, are_distinct}
+use Rattle.trio_types.specs.Names.{words_of, names_of_domain, declared_names, are_distinct}
 use Rattle.trio_types.proofs.Lists.{any_from_some, get_left, get_right, map_some}
 use Rattle.trio_types.proofs.Specs.{Formed}
 use Rattle.trio_syntax.specs.declared.tree.Mention.{Mention}
@@ -25,7 +25,7 @@ use Rattle.trio_syntax.specs.declared.tree.DeclarationTree.TheVariants as statem
 use Rattle.trio_syntax.specs.declared.tree.ClaimTree.{ClaimTree}
 use Rattle.trio_syntax.specs.declared.tree.SpecTree.{SpecTree}
 use Rattle.trio_scope.specs.declared.meaning.Meaning.TheVariants as meaning
-use Rattle.trio_scope.specs.Names.{Declaration, declaration, words_from, words_of, declared_from, declarations, declared_of}
+use Rattle.trio_scope.specs.Names.{Declaration, declaration, words_from, declared_words, declared_from, declarations, declared_of}
 use Rattle.trio_reader.specs.Erasure.{values_kind, domain_from, meaning_of}
 use Rattle.trio_reader.proofs.FormedNames.{names_of, words_names}
 use Rattle.trio_canonical.proofs.Told.{Pairwise}
@@ -81,12 +81,12 @@ stated_names : (n m : ℕ) (ds : List DomainTree) (is_ : List ItemTree) →
 stated_names n m [] [] = refl
 stated_names n m [] (i ∷ is_) = ap (λ ns. i.name.name ∷ ns) (stated_names n (m + 1) [] is_)
 stated_names n m (d ∷ ds) is_ =
-    let words = words_of n d.values in
+    let words = declared_words n d.values in
     let others = declared_from (n + 1) m (stated ds is_) in
     ap (λ ns. d.name.name ∷ ns)
     (map-append (λ (d : Declaration). d.name) words others
     ∙ rw (words_names n d.values, stated_names (n + 1) m ds is_)
-    (sym (append_assoc (words_of_kind (values_kind d.values)) (flat_map names_of_domain (map domain_from ds)) (map (λ (i : ItemTree). i.name.name) is_))))
+    (sym (append_assoc (words_of (values_kind d.values)) (flat_map names_of_domain (map domain_from ds)) (map (λ (i : ItemTree). i.name.name) is_))))
 
 item_names : (parts : Parts) (is_ : List Item) (ts : List ItemTree) → Pairwise (IsItem parts) is_ ts → map (λ (t : ItemTree). t.name.name) ts ≡ map (λ (i : Item). i.name) is_
 item_names parts [] [] pairs = refl
@@ -132,7 +132,7 @@ first_declaration (x ∷ ds) are (suc k) d at =
 
 -- what a domain and its words declare
 abbrev own : ℕ → DomainTree → List Declaration
-own n d = declaration d.name (meaning.Domain n) ∷ words_of n d.values
+own n d = declaration d.name (meaning.Domain n) ∷ declared_words n d.values
 
 in_domain : (n m : ℕ) (ds : List DomainTree) (is_ : List ItemTree) (j : ℕ) (t : DomainTree) → slice_get ds j ≡ Some t → (i : ℕ) (d : Declaration) →
     slice_get (own (n + j) t) i ≡ Some d → StandsAmong d (declared_from n m (stated ds is_))
@@ -259,7 +259,7 @@ module _ (parts : Parts) (formed : Formed parts) (tree : SpecTree) (stands : Spe
         subst (λ n. IsMeant parts tree (slice_index_or words v []) (meaning.Word n v)) (sym found.2)
         (meant_of (slice_index_or words v []) here word.2
         (in_domain 1 0 domains_of_tree.trees items_of_tree.trees found.0 found.1 found.3 (suc v) here
-        (ap (λ vs. slice_get (words_of (1 + found.0) vs) v) own_words.1 ∙ word_at (1 + found.0) 0 own_words.0 v word.0 word.1
+        (ap (λ vs. slice_get (declared_words (1 + found.0) vs) v) own_words.1 ∙ word_at (1 + found.0) 0 own_words.0 v word.0 word.1
         ∙ ap (λ v. Some (declaration word.0 (meaning.Word (1 + found.0) v))) e)));
     items = λ n item at.
         let found = paired_at parts parts.items items_of_tree.trees items_of_tree.each n item at in

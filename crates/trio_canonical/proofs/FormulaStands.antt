@@ -12,7 +12,7 @@ use Rattle.trio_types.specs.declared.formula.Formula.{Formula}
 use Rattle.trio_types.specs.declared.formula.Formula.TheVariants as formula
 use Rattle.trio_types.specs.Parts.{Parts, world_of_parts}
 use Rattle.trio_types.specs.Names.{declared_names, is_new, variables_are_new}
-use Rattle.trio_types.specs.Kinds.{has_kind, kind, kind_in, in_role, of_domain, alone, compared, distance, uses, term_uses, is_right}
+use Rattle.trio_types.specs.Kinds.{has_kind, kind_of_term, kind_in, required, of_domain, alone, compared, distance, uses, term_uses, is_right}
 use Rattle.trio_types.specs.Shape.{two_or_more, is_shaped}
 use Rattle.trio_types.proofs.Lists.{all_left, all_right}
 use Rattle.trio_types.proofs.Specs.{inside_from_kind}
@@ -71,7 +71,7 @@ module _ (parts : Parts) (names : List (List ℕ)) where
     is = λ tree around vs fits right new.
         let all = sym (ap (list_all is_right) (uses-Lone (world_of_parts parts) x vs)) ∙ right in
         formula-Lone tree around t
-        ∙ ap formula.Lone (s.is tree around vs false fits (and_parts (is_right (in_role alone (kind (world_of_parts parts) vs x))) (term_is_right parts vs false x) all).1);
+        ∙ ap formula.Lone (s.is tree around vs false fits (and_parts (is_right (required alone (kind_of_term (world_of_parts parts) vs x))) (term_is_right parts vs false x) all).1);
   }
 
   pub stands_compare : (r : Rel) (x y : Term) (p : ℕ) (t u : TermTree) → Stands parts names x t → Stands parts names y u →
@@ -79,7 +79,7 @@ module _ (parts : Parts) (names : List (List ℕ)) where
   stands_compare r x y p t u one two = record {
     is = λ tree around vs fits right new.
         let w = world_of_parts parts in
-        let all = (and_parts (is_right (in_role (compared r (kind w vs x)) (kind w vs y))) (list_all is_right (term_uses w vs false x ++ term_uses w vs false y))
+        let all = (and_parts (is_right (required (compared r (kind_of_term w vs x)) (kind_of_term w vs y))) (list_all is_right (term_uses w vs false x ++ term_uses w vs false y))
         (sym (ap (list_all is_right) (uses-Compare w r x y vs)) ∙ right)).1 in
         let first = one.is tree around vs false fits (all_left is_right (term_uses w vs false x) (term_uses w vs false y) all) in
         let second = two.is tree around vs false fits (all_right is_right (term_uses w vs false x) (term_uses w vs false y) all) in
@@ -109,7 +109,7 @@ module _ (parts : Parts) (names : List (List ℕ)) where
   stands_far o f x t u one two = record {
     is = λ tree around vs fits right new.
         let w = world_of_parts parts in
-        let all = (and_parts (is_right (in_role distance (kind w vs x))) (list_all is_right (uses w f vs ++ term_uses w vs true x))
+        let all = (and_parts (is_right (required distance (kind_of_term w vs x))) (list_all is_right (uses w f vs ++ term_uses w vs true x))
         (sym (ap (list_all is_right) (uses-Far w o f x vs)) ∙ right)).1 in
         let first = one.is tree around vs fits (all_left is_right (uses w f vs) (term_uses w vs true x) all)
         (sym (variables_are_new-Far o f x (declared_names parts ++ names)) ∙ new) in

@@ -30,8 +30,8 @@ use Rattle.trio_syntax.specs.Words.{rel_sign, one_word, far_word, pair_word, arr
 use Rattle.trio_syntax.specs.Forms.{seq, row, formula, disj, conj, unary, primary, term}
 use Rattle.trio_syntax.specs.Grammar.{ref, atom, and_of, or_of, arrowed, a_sign}
 use Rattle.trio_print.specs.Pieces.{Piece, blank, lexemes_in}
-use Rattle.trio_print.specs.Canonical.{Printed, FormulaText, formula_text, text_of_formula, own_group, in_group, term_plain, many_text, quantified_text, joined, in_round, spaced, comma, sign, word_, name_, domain_name}
-use Rattle.trio_print.specs.Canonical.{ref as ref_text}
+use Rattle.trio_print.specs.Canonical.{Printed, FormulaText, formula_text, text_of_formula, own_group, in_group, term_plain, many_text, quantified_text, joined_pieces, in_round, spaced, comma, sign, word_, name_, domain_name}
+use Rattle.trio_print.specs.Canonical.{ref_pieces}
 use Rattle.trio_reader.proofs.FormedCases.{Each}
 use Rattle.trio_reader.specs.Erasure.{quantified as quantified_formula}
 use Rattle.trio_canonical.proofs.Told.{Told, told_text, told_map, told_empty, told_one, told_row, told_seq, told_left, told_right, told_both, told_behind, told_before, told_round, told_none, told_many, told_listed, Pairwise, each_map}
@@ -66,7 +66,7 @@ pub record HasFormulaTexts (parts : Parts) (names : List (List ℕ)) (f : Formul
   pub plain : Told (row formula) (StandsFor parts names f) (lexemes_in (t.plain names))
   pub grouped : Told (row primary) (StandsFor parts names f) (lexemes_in (t.grouped names))
 
-pub ref_told : (parts : Parts) (d : ℕ) → Told ref (RefStands parts d) (lexemes_in (ref_text parts d))
+pub ref_told : (parts : Parts) (d : ℕ) → Told ref (RefStands parts d) (lexemes_in (ref_pieces parts d))
 ref_told parts d =
     ⊎_elim
     (λ first. told_text (sym (ap (λ b. lexemes_in (if b then word_ word.Bool else name_ (domain_name (slice_get parts.domains d)))) first))
@@ -142,7 +142,7 @@ module _ (parts : Parts) (names : List (List ℕ)) where
   many_tokens : (s : Symbol) (f : Formula) (fs : List Formula) →
       lexemes_in (many_text s (map (text_of_formula parts) (f ∷ fs)) names) ≡ grouped_tokens f ++ flat_map (λ g. lexeme.Sign s ∷ grouped_tokens g) fs
   many_tokens s f fs =
-      ap (λ ts. lexemes_in (joined (spaced s) ts)) (map-map (λ (t : FormulaText). t.grouped names) (text_of_formula parts) (f ∷ fs))
+      ap (λ ts. lexemes_in (joined_pieces (spaced s) ts)) (map-map (λ (t : FormulaText). t.grouped names) (text_of_formula parts) (f ∷ fs))
       ∙ lexemes-joined (spaced s) s refl (λ g. (text_of_formula parts g).grouped names) f fs
 
   and_told : (fs : List Formula) → two_or_more (map is_shaped fs) ≡ true → Each GroupTold fs →
@@ -222,11 +222,11 @@ module _ (parts : Parts) (names : List (List ℕ)) where
   quantified_tokens : (q : Quantifier) (name : List ℕ) (d : ℕ) (f : FormulaText) →
       lexemes_in (quantified_text parts (quantifier_word q) name d f names)
       ≡ lexeme.Word (quantifier_word q) ∷ lexeme.Name name ∷ lexeme.Sign signs.Colon
-      ∷ (lexemes_in (ref_text parts d) ++ (lexeme.Sign signs.LeftRound ∷ (lexemes_in (f.plain (names ++ name ∷ [])) ++ lexeme.Sign signs.RightRound ∷ [])))
+      ∷ (lexemes_in (ref_pieces parts d) ++ (lexeme.Sign signs.LeftRound ∷ (lexemes_in (f.plain (names ++ name ∷ [])) ++ lexeme.Sign signs.RightRound ∷ [])))
   quantified_tokens q name d f =
       ap (λ z. lexeme.Word (quantifier_word q) ∷ lexeme.Name name ∷ lexeme.Sign signs.Colon ∷ z)
-      (lexemes-append (ref_text parts d) (blank ∷ in_round (f.plain (names ++ name ∷ [])))
-      ∙ ap (λ z. lexemes_in (ref_text parts d) ++ z) (lexemes-round (f.plain (names ++ name ∷ []))))
+      (lexemes-append (ref_pieces parts d) (blank ∷ in_round (f.plain (names ++ name ∷ [])))
+      ∙ ap (λ z. lexemes_in (ref_pieces parts d) ++ z) (lexemes-round (f.plain (names ++ name ∷ []))))
 
   quantified_told : (q : Quantifier) (name : List ℕ) (d : ℕ) (f : Formula) →
       Told (row formula) (StandsFor parts (names ++ name ∷ []) f) (lexemes_in ((text_of_formula parts f).plain (names ++ name ∷ []))) →

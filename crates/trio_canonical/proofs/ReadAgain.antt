@@ -8,7 +8,7 @@ use Rattle.trio_text.specs.Lexemes.{lexemes_of}
 use Rattle.trio_syntax.specs.Grammar.{IsSpec}
 use Rattle.trio_syntax.specs.Depth.{first_deep}
 use Rattle.trio_reader.specs.Reading.{IsSpecText}
-use Rattle.trio_print.specs.Pieces.{Piece, text_of, lexemes_in}
+use Rattle.trio_print.specs.Pieces.{Piece, pieces_text, lexemes_in}
 use Rattle.trio_print.specs.Canonical.{spec_pieces}
 use Rattle.trio_print.proofs.Spaced.{are_spaced}
 use Rattle.trio_print.proofs.Printed.{tokens_of, spaced_tokens, spaced_lexemes}
@@ -17,10 +17,10 @@ use Rattle.trio_canonical.proofs.CanonicalTree.{CanonicalTree, canonical_tree}
 use Rattle.trio_canonical.proofs.SoundTree.{tree_is_sound}
 
 canonical_read : (spec : Spec) → is_well_formed (parts_of spec) ≡ true → are_spaced (spec_pieces (parts_of spec)) ≡ true → CanonicalTree (parts_of spec) →
-    IsSpecText (text_of (spec_pieces (parts_of spec))) spec
+    IsSpecText (pieces_text (spec_pieces (parts_of spec))) spec
 canonical_read spec well spaced told =
     let pieces : List Piece = spec_pieces (parts_of spec) in
-    let same : lexemes_in pieces ≡ lexemes_of (text_of pieces) (tokens_of 0 1 pieces) = sym (spaced_lexemes pieces spaced) in
+    let same : lexemes_in pieces ≡ lexemes_of (pieces_text pieces) (tokens_of 0 1 pieces) = sym (spaced_lexemes pieces spaced) in
     record {
       tree = told.tree;
       read = record {
@@ -39,5 +39,5 @@ canonical_read spec well spaced told =
 
 -- the canonical text of a specification, which is well formed, is that specification
 pub canonical_reading : (spec : Spec) → is_well_formed (parts_of spec) ≡ true → are_spaced (spec_pieces (parts_of spec)) ≡ true →
-    IsSpecText (text_of (spec_pieces (parts_of spec))) spec
+    IsSpecText (pieces_text (spec_pieces (parts_of spec))) spec
 canonical_reading spec well spaced = canonical_read spec well spaced (canonical_tree (parts_of spec) well)

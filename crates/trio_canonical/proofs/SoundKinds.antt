@@ -8,7 +8,7 @@ use Rattle.trio_types.specs.declared.spec.Axiom.{Axiom}
 use Rattle.trio_types.specs.declared.formula.Formula.{Formula}
 use Rattle.trio_types.specs.World.{World}
 use Rattle.trio_types.specs.WellFormed.{kinds_are_right}
-use Rattle.trio_types.specs.Kinds.{Use, kind_in, term_uses, is_right, in_role, of_domain, alone, distance, compared, uses, item_uses}
+use Rattle.trio_types.specs.Kinds.{Use, kind_in, term_uses, is_right, required, of_domain, alone, distance, compared, uses, item_uses}
 use Rattle.trio_types.proofs.Lists.{all_left, all_right}
 use Rattle.trio_types.proofs.KindsAt.{uses-Lone, uses-Compare, uses-Not, uses-And, uses-Or, uses-Implies, uses-Iff, uses-All, uses-Ex, uses-One, uses-Far, uses-Pair}
 use Rattle.trio_syntax.specs.declared.tree.Quantifier.{Quantifier}
@@ -92,12 +92,12 @@ module _ (tree : SpecTree) where
   unfolding CleanFormula
   formula_cases = record {
     at_lone = λ t e all.
-        let both = and_parts (is_right (in_role alone (kind_of tree e t))) (list_all is_right (term_uses world (domains_of tree e) false (term_of tree t e)))
+        let both = and_parts (is_right (required alone (kind_of tree e t))) (list_all is_right (term_uses world (domains_of tree e) false (term_of tree t e)))
         (sym (ap (right e) (formula-Lone tree e t) ∙ ap (list_all is_right) (uses-Lone world (term_of tree t e) (domains_of tree e))) ∙ all) in
         in-Lone (kind_finding tree) e t
-        ∙ no_wrong_kind tree t e role.Alone false (one_placed (out-TermTree t).place (in_role alone (kind_of tree e t)) both.0) both.1;
+        ∙ no_wrong_kind tree t e role.Alone false (one_placed (out-TermTree t).place (required alone (kind_of tree e t)) both.0) both.1;
     at_compare = λ rel p t u e all.
-        let here : Use = in_role (compared rel (kind_of tree e t)) (kind_of tree e u) in
+        let here : Use = required (compared rel (kind_of tree e t)) (kind_of tree e u) in
         let both = and_parts (is_right here)
         (list_all is_right (term_uses world (domains_of tree e) false (term_of tree t e) ++ term_uses world (domains_of tree e) false (term_of tree u e)))
         (sym (ap (right e) (formula-Compare tree e rel p t u)
@@ -139,12 +139,12 @@ module _ (tree : SpecTree) where
     at_far = λ op f t is e all.
         let xs : List Use = uses world (formula_of tree f e) (domains_of tree e) in
         let ys : List Use = term_uses world (domains_of tree e) true (term_of tree t e) in
-        let both = and_parts (is_right (in_role distance (kind_of tree e t))) (list_all is_right (xs ++ ys))
+        let both = and_parts (is_right (required distance (kind_of tree e t))) (list_all is_right (xs ++ ys))
         (sym (ap (right e) (formula-Far tree e op f t)
         ∙ ap (list_all is_right) (uses-Far world op (formula_of tree f e) (term_of tree t e) (domains_of tree e))) ∙ all) in
         in-Far (kind_finding tree) e op f t
         ∙ both_empty (places_in (kind_finding tree) f e) (places_in_term (kind_finding tree) t e role.Distance true) (is e (all_left is_right xs ys both.1))
-        (no_wrong_kind tree t e role.Distance true (one_placed (out-TermTree t).place (in_role distance (kind_of tree e t)) both.0) (all_right is_right xs ys both.1));
+        (no_wrong_kind tree t e role.Distance true (one_placed (out-TermTree t).place (required distance (kind_of tree e t)) both.0) (all_right is_right xs ys both.1));
     at_pair = λ op f g first second e all.
         in-Pair (kind_finding tree) e op f g
         ∙ both_clean f g first second e

@@ -31,7 +31,7 @@ use Rattle.trio_scope.specs.declared.meaning.Meaning.{Meaning}
 use Rattle.trio_scope.specs.declared.meaning.Meaning.TheVariants as meaning
 use Rattle.trio_scope.specs.declared.meaning.Declared.{Declared}
 use Rattle.trio_scope.specs.Places.{unless}
-use Rattle.trio_scope.specs.Names.{Declaration, declaration, words_from, words_of, declared_from, declarations, domains_in, items_in, declared_of}
+use Rattle.trio_scope.specs.Names.{Declaration, declaration, words_from, declared_words, declared_from, declarations, domains_in, items_in, declared_of}
 use Rattle.trio_scope.specs.Gather.{Variable, places_in, places_in_claims}
 use Rattle.trio_scope.specs.Scope.{is_variable, stands_before, is_known, unknown_among, own_names, names_of_ref, unknown_finding, refs_of, unknown_places}
 use Rattle.trio_reader.specs.declared.sense.Sense.TheVariants as sense
@@ -87,7 +87,7 @@ module _ (bound : ℕ) where
   words_no_domain domain index [] = refl
   words_no_domain domain index (w ∷ ws) = words_no_domain domain (index + 1) ws
 
-  values_no_domain : (domain : ℕ) (v : ValuesTree) → list_all domain_passes (words_of domain v) ≡ true
+  values_no_domain : (domain : ℕ) (v : ValuesTree) → list_all domain_passes (declared_words domain v) ≡ true
   values_no_domain domain (values.Range low high) = refl
   values_no_domain domain (values.Words ws) = words_no_domain domain 0 ws
 
@@ -102,8 +102,8 @@ module _ (bound : ℕ) where
       let both = and_parts (all_before bound (d.name ∷ words_in d.values)) (list_all (λ w. all_before bound (names_declared w)) (map statement.Domain ds)) all in
       let own = and_parts (nat_lt d.name.place bound) (all_before bound (words_in d.values)) both.0 in
       let later : List Declaration = declared_from (domains + 1) items (in_order ds is) in
-      and_from (nat_lt d.name.place bound) (list_all domain_passes (words_of domains d.values ++ later)) own.0
-      (all_both domain_passes (words_of domains d.values) later (values_no_domain domains d.values) (domains_first (domains + 1) items ds is both.1))
+      and_from (nat_lt d.name.place bound) (list_all domain_passes (declared_words domains d.values ++ later)) own.0
+      (all_both domain_passes (declared_words domains d.values) later (values_no_domain domains d.values) (domains_first (domains + 1) items ds is both.1))
 
   words_first : (domain index : ℕ) (ws : List Mention) → all_before bound ws ≡ true → list_all statement_passes (words_from domain index ws) ≡ true
   words_first domain index [] all = refl
@@ -111,7 +111,7 @@ module _ (bound : ℕ) where
       let both = and_parts (nat_lt w.place bound) (all_before bound ws) all in
       and_from (nat_lt w.place bound) (list_all statement_passes (words_from domain (index + 1) ws)) both.0 (words_first domain (index + 1) ws both.1)
 
-  values_first : (domain : ℕ) (v : ValuesTree) → all_before bound (words_in v) ≡ true → list_all statement_passes (words_of domain v) ≡ true
+  values_first : (domain : ℕ) (v : ValuesTree) → all_before bound (words_in v) ≡ true → list_all statement_passes (declared_words domain v) ≡ true
   values_first domain (values.Range low high) all = refl
   values_first domain (values.Words ws) all = words_first domain 0 ws all
 
@@ -122,8 +122,8 @@ module _ (bound : ℕ) where
       let both = and_parts (all_before bound (d.name ∷ words_in d.values)) (list_all (λ w. all_before bound (names_declared w)) rest) all in
       let own = and_parts (nat_lt d.name.place bound) (all_before bound (words_in d.values)) both.0 in
       let later : List Declaration = declared_from (domains + 1) items rest in
-      and_from (nat_lt d.name.place bound) (list_all statement_passes (words_of domains d.values ++ later)) own.0
-      (all_both statement_passes (words_of domains d.values) later (values_first domains d.values own.1) (statements_first (domains + 1) items rest both.1))
+      and_from (nat_lt d.name.place bound) (list_all statement_passes (declared_words domains d.values ++ later)) own.0
+      (all_both statement_passes (declared_words domains d.values) later (values_first domains d.values own.1) (statements_first (domains + 1) items rest both.1))
   statements_first domains items (statement.Item i ∷ rest) all =
       let both = and_parts (all_before bound (i.name ∷ [])) (list_all (λ w. all_before bound (names_declared w)) rest) all in
       and_from (nat_lt i.name.place bound) (list_all statement_passes (declared_from domains (items + 1) rest))

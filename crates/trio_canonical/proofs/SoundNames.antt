@@ -7,7 +7,7 @@ use Rattle.std.proofs.lemmas.List.{append-nil, map-append}
 use Rattle.std.proofs.lemmas.List.Folds.{list_all-map, list_any-append}
 use Rattle.trio_types.specs.declared.spec.Item.{Item}
 use Rattle.trio_types.specs.declared.spec.Axiom.{Axiom}
-use Rattle.trio_types.specs.Names.{words_of as words_of_kind, names_of_domain, declared_names, are_distinct, is_new, variables_are_new}
+use Rattle.trio_types.specs.Names.{words_of, names_of_domain, declared_names, are_distinct, is_new, variables_are_new}
 use Rattle.trio_types.specs.WellFormed.{names_are_distinct, variables_are_distinct}
 use Rattle.trio_types.proofs.Lists.{list_any-map, any_same}
 use Rattle.trio_types.proofs.NamesAt.{variables_are_new-Not, variables_are_new-And, variables_are_new-Or, variables_are_new-Implies, variables_are_new-Iff, variables_are_new-One, variables_are_new-Far, variables_are_new-Pair}
@@ -25,7 +25,7 @@ use Rattle.trio_scope.specs.declared.meaning.Meaning.TheVariants as meaning
 use Rattle.trio_scope.specs.declared.walk.Role.{Role}
 use Rattle.trio_scope.specs.declared.walk.Role.TheVariants as role
 use Rattle.trio_scope.specs.Places.{unless}
-use Rattle.trio_scope.specs.Names.{Declaration, declaration, words_of, declared_from, declarations, domains_in, items_in, is_declared, repeated_behind}
+use Rattle.trio_scope.specs.Names.{Declaration, declaration, declared_words, declared_from, declarations, domains_in, items_in, is_declared, repeated_behind}
 use Rattle.trio_scope.specs.Gather.{Variable, Finding, places_in, places_in_term, places_in_shape, places_in_claims}
 use Rattle.trio_scope.specs.Scope.{is_variable, twice_finding, repeated_places}
 use Rattle.trio_scope.proofs.Gathers.{in-term, in-Number, in-Truth, in-Named, in-Call, in-Sum, in-Times, in-Lone, in-Compare, in-Not, in-And, in-Or, in-Implies, in-Iff, in-Quantified, in-One, in-Far, in-Pair}
@@ -117,9 +117,9 @@ module _ (tree : SpecTree) where
   statements_declare domains [] is = items_declare domains 0 is
   statements_declare domains (d ∷ ds) is =
       let rest : List Declaration = declared_from (domains + 1) 0 (in_order ds is) in
-      let words : List (List ℕ) = words_of_kind (values_kind d.values) in
+      let words : List (List ℕ) = words_of (values_kind d.values) in
       ap (λ ns. d.name.name ∷ ns)
-      (map-append (λ (x : Declaration). x.name) (words_of domains d.values) rest
+      (map-append (λ (x : Declaration). x.name) (declared_words domains d.values) rest
       ∙ rw (words_names domains d.values, statements_declare (domains + 1) ds is)
       (sym (append_assoc words (flat_map names_of_domain (map domain_from ds)) (item_names is))))
 

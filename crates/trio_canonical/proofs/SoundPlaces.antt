@@ -24,8 +24,8 @@ use Rattle.trio_syntax.specs.declared.tree.DeclarationTree.{DeclarationTree}
 use Rattle.trio_syntax.specs.declared.tree.DeclarationTree.TheVariants as declared
 use Rattle.trio_syntax.specs.declared.tree.ClaimTree.{ClaimTree}
 use Rattle.trio_syntax.specs.Reading.{Language}
-use Rattle.trio_syntax.specs.Forms.{Meaning, relation, adding, arrow, Row, formula, disj, conj, unary, primary, term, summand, factor, basic, Tree, Form, empty, one, row, seq, either, many, Many, none, more, Under}
-use Rattle.trio_syntax.specs.Grammar.{a, a_sign, a_name, behind, round, listed, optional, body, rows_within, sum, product, named, compared, and_of, or_of, arrowed, connected, arguments, ref, bound, distant, paired, domain_values, domain, refs, item, claim}
+use Rattle.trio_syntax.specs.Forms.{SortValue, relation, adding, arrow, Nonterminal, formula, disj, conj, unary, primary, term, summand, factor, basic, Tree, Form, empty, one, row, seq, either, many, Many, none, more, Under}
+use Rattle.trio_syntax.specs.Grammar.{a, a_sign, a_name, behind_sign, round, listed, optional, production, rows_within, sum, product, named, compared, and_of, or_of, arrowed, connected, arguments, ref, bound, distant, paired, domain_values, domain, refs, item, claim}
 use Rattle.trio_scope.specs.declared.walk.Role.{Role}
 use Rattle.trio_scope.specs.declared.walk.Role.TheVariants as role
 use Rattle.trio_scope.specs.Places.{unless}
@@ -69,9 +69,9 @@ module _ (low high : ℕ) where
   rule = early_finding low
 
   -- what holds of the value of a form, by what holds of its parts, where its tokens stand between two places
-  Within : {A : Type 0} → ((r : Row) → Tree r → Type 0) → Form A → A → Type 0
+  Within : {A : Type 0} → ((r : Nonterminal) → Tree r → Type 0) → Form A → A → Type 0
   Within rows (empty a) w = w ≡ a
-  Within rows (one sort value) w = (p : ℕ) × (m : Meaning sort) × (low ≤ p) × (p < high) × (w ≡ value p m)
+  Within rows (one sort value) w = (p : ℕ) × (m : SortValue sort) × (low ≤ p) × (p < high) × (w ≡ value p m)
   Within rows (row r) w = rows r w
   Within {A} rows (seq {B = B} {C = C} g h value) w = (p : ℕ) × (b : B) × (c : C) × Within rows g b × Within rows h c × (w ≡ value p b c)
   Within rows (either g h) w = Within rows g w ⊎ Within rows h w
@@ -85,8 +85,8 @@ module _ (low high : ℕ) where
       let whole = length-append y z in
       (each p y w from (omega arith) d, many_within G P each (p + length y) z others (omega arith) (omega arith) ds)
 
-  under_within : {A : Type 0} (R : (r : Row) → ℕ → Language (Tree r)) (rows : (r : Row) → Tree r → Type 0) →
-      ((r : Row) (p : ℕ) (x : List Lexeme) (w : Tree r) → low ≤ p → p + length x ≤ high → R r p x w → rows r w) →
+  under_within : {A : Type 0} (R : (r : Nonterminal) → ℕ → Language (Tree r)) (rows : (r : Nonterminal) → Tree r → Type 0) →
+      ((r : Nonterminal) (p : ℕ) (x : List Lexeme) (w : Tree r) → low ≤ p → p + length x ≤ high → R r p x w → rows r w) →
       (g : Form A) (p : ℕ) (x : List Lexeme) (w : A) → low ≤ p → p + length x ≤ high → Under R g p x w → Within rows g w
   unfolding Under Within
   under_within R rows over (empty a) p x w from to d = d.1
@@ -119,7 +119,7 @@ module _ (low high : ℕ) where
   abbrev LateFormulas : List FormulaTree → Type 0
   LateFormulas fs = (e : List Variable) → flat_map (λ f. places_in rule f e) fs ≡ []
 
-  abbrev Late : (r : Row) → Tree r → Type 0
+  abbrev Late : (r : Nonterminal) → Tree r → Type 0
   Late formula f = LateFormula f
   Late disj fs = LateFormulas fs
   Late conj fs = LateFormulas fs
@@ -188,7 +188,7 @@ module _ (low high : ℕ) where
   unfolding Within
   name_late m d = let same : m.place ≡ d.0 = ap (λ (x : Mention). x.place) d.4 in let from = d.2 in let to = d.3 in (omega arith, omega arith)
 
-  more_terms : (ts : List TermTree) → Within Late (many (behind signs.Comma (row term))) ts → LateTerms ts
+  more_terms : (ts : List TermTree) → Within Late (many (behind_sign signs.Comma (row term))) ts → LateTerms ts
   unfolding Within
   more_terms [] each e = refl
   more_terms (t ∷ ts) each e =
@@ -208,14 +208,14 @@ module _ (low high : ℕ) where
       subst (λ o. LateTerm (named p m o)) (sym d.5)
       (term_late p (s.Call m d.2) (call_late m d.2 from (subst LateTerms (sym d.4.5) (listed_terms d.4.1 d.4.3))))
 
-  basic_late : (t : TermTree) → Within Late (body basic) t → LateTerm t
+  basic_late : (t : TermTree) → Within Late (production basic) t → LateTerm t
   unfolding Within
   basic_late t (inl d) = subst LateTerm (sym d.4) (term_late d.0 (s.Truth d.1) (truth_late d.1))
   basic_late t (inr (inl d)) =
       subst LateTerm (sym d.5) (term_late d.0 d.2.shape (shape_of_term d.2 (subst LateTerm (sym d.4.5) d.4.3)))
   basic_late t (inr (inr d)) = subst LateTerm (sym d.5) (call_or_name d.0 d.1 d.2 (name_late d.1 d.3).0 d.4)
 
-  factor_late : (t : TermTree) → Within Late (body factor) t → LateTerm t
+  factor_late : (t : TermTree) → Within Late (production factor) t → LateTerm t
   unfolding Within
   factor_late t (inl d) =
       subst LateTerm (sym d.4) (term_late d.0 (s.Number (record { number = d.1; place = d.0 })) (number_late (record { number = d.1; place = d.0 })))
@@ -227,7 +227,7 @@ module _ (low high : ℕ) where
   product_late p n f (inr lone) = subst (λ o. LateTerm (product p n o)) (sym lone) (term_late p (s.Number n) (number_late n))
   product_late p n f (inl d) = subst (λ o. LateTerm (product p n o)) (sym d.5) (term_late p (s.Times n d.2) (times_late n d.2 d.4))
 
-  summand_late : (t : TermTree) → Within Late (body summand) t → LateTerm t
+  summand_late : (t : TermTree) → Within Late (production summand) t → LateTerm t
   unfolding Within
   summand_late t (inl d) = subst LateTerm (sym d.5) (product_late d.0 d.1 d.2 d.4)
   summand_late t (inr d) = d
@@ -254,7 +254,7 @@ module _ (low high : ℕ) where
   sum_late p false t (q ∷ ps) is all = all_parts p false t (q ∷ ps) is all
   sum_late p true t (q ∷ ps) is all = all_parts p true t (q ∷ ps) is all
 
-  whole_term : (t : TermTree) → Within Late (body term) t → LateTerm t
+  whole_term : (t : TermTree) → Within Late (production term) t → LateTerm t
   unfolding Within
   whole_term t d =
       let r = d.4 in
@@ -307,7 +307,7 @@ module _ (low high : ℕ) where
       (λ e. in-Compare rule e d.1 d.0 t d.2
       ∙ both_empty (places_in_term rule t e role.Compared false) (places_in_term rule d.2 e role.Compared false) (is e role.Compared false) (d.4 e role.Compared false))
 
-  primary_late : (f : FormulaTree) → Within Late (body primary) f → LateFormula f
+  primary_late : (f : FormulaTree) → Within Late (production primary) f → LateFormula f
   unfolding Within
   primary_late f (inl d) = round_late f d
   primary_late f (inr (inl d)) = subst LateFormula (sym d.5) (bound_late d.1 d.2 d.4)
@@ -316,7 +316,7 @@ module _ (low high : ℕ) where
   primary_late f (inr (inr (inr (inr (inl d))))) = subst LateFormula (sym d.5) (paired_late d.1 d.2 d.4)
   primary_late f (inr (inr (inr (inr (inr d))))) = subst LateFormula (sym d.5) (compared_late d.1 d.2 d.3 d.4)
 
-  unary_late : (f : FormulaTree) → Within Late (body unary) f → LateFormula f
+  unary_late : (f : FormulaTree) → Within Late (production unary) f → LateFormula f
   unfolding Within
   unary_late f (inl d) = subst LateFormula (sym d.5) (λ e. in-Not rule e d.2 ∙ d.4 e)
   unary_late f (inr d) = d
@@ -337,12 +337,12 @@ module _ (low high : ℕ) where
   or_late (f ∷ []) all e = alone_late f all e
   or_late (f ∷ g ∷ fs) all e = in-Or rule e (f ∷ g ∷ fs) ∙ all e
 
-  more_units : (fs : List FormulaTree) → Within Late (many (behind signs.And (row unary))) fs → LateFormulas fs
+  more_units : (fs : List FormulaTree) → Within Late (many (behind_sign signs.And (row unary))) fs → LateFormulas fs
   unfolding Within
   more_units [] each e = refl
   more_units (f ∷ fs) each e = cons_late f fs (subst LateFormula (sym each.0.5) each.0.4) (more_units fs each.1) e
 
-  conj_late : (fs : List FormulaTree) → Within Late (body conj) fs → LateFormulas fs
+  conj_late : (fs : List FormulaTree) → Within Late (production conj) fs → LateFormulas fs
   unfolding Within
   conj_late fs d = subst LateFormulas (sym d.5) (cons_late d.1 d.2 d.3 (more_units d.2 d.4))
 
@@ -351,7 +351,7 @@ module _ (low high : ℕ) where
   more_conjs [] each e = refl
   more_conjs (f ∷ fs) each e = cons_late f fs (subst LateFormula (sym each.0.5) (and_late each.0.2 each.0.4)) (more_conjs fs each.1) e
 
-  disj_late : (fs : List FormulaTree) → Within Late (body disj) fs → LateFormulas fs
+  disj_late : (fs : List FormulaTree) → Within Late (production disj) fs → LateFormulas fs
   unfolding Within
   disj_late fs d = subst LateFormulas (sym d.5) (cons_late (and_of d.1) d.2 (and_late d.1 d.3) (more_conjs d.2 d.4))
 
@@ -366,11 +366,11 @@ module _ (low high : ℕ) where
   connected_late fs r all (inl d) =
       subst (λ o. LateFormula (connected fs o)) (sym d.5) (arrowed_late d.1 (or_of fs) (or_of d.2) (or_late fs all) (or_late d.2 d.4))
 
-  whole_formula : (f : FormulaTree) → Within Late (body formula) f → LateFormula f
+  whole_formula : (f : FormulaTree) → Within Late (production formula) f → LateFormula f
   unfolding Within
   whole_formula f d = subst LateFormula (sym d.5) (connected_late d.1 d.2 d.3 d.4)
 
-  row_late : (r : Row) (w : Tree r) → Within Late (body r) w → Late r w
+  row_late : (r : Nonterminal) (w : Tree r) → Within Late (production r) w → Late r w
   row_late formula w d = whole_formula w d
   row_late disj w d = disj_late w d
   row_late conj w d = conj_late w d
@@ -381,13 +381,13 @@ module _ (low high : ℕ) where
   row_late factor w d = factor_late w d
   row_late basic w d = basic_late w d
 
-  rows_late : (n : ℕ) (r : Row) (p : ℕ) (x : List Lexeme) (w : Tree r) → low ≤ p → p + length x ≤ high → rows_within n r p x w → Late r w
+  rows_late : (n : ℕ) (r : Nonterminal) (p : ℕ) (x : List Lexeme) (w : Tree r) → low ≤ p → p + length x ≤ high → rows_within n r p x w → Late r w
   unfolding rows_within
   rows_late zero r p x w from to d = absurd d
-  rows_late (suc n) r p x w from to d = row_late r w (under_within (rows_within n) Late (rows_late n) (body r) p x w from to d)
+  rows_late (suc n) r p x w from to d = row_late r w (under_within (rows_within n) Late (rows_late n) (production r) p x w from to d)
 
   -- statements
-  more_words : (ws : List Mention) → Within Late (many (behind signs.Comma a_name)) ws → all_before high ws ≡ true
+  more_words : (ws : List Mention) → Within Late (many (behind_sign signs.Comma a_name)) ws → all_before high ws ≡ true
   unfolding Within
   more_words [] each = refl
   more_words (w ∷ ws) each =
@@ -405,7 +405,7 @@ module _ (low high : ℕ) where
   abbrev early_refs : List RefTree → List ℕ
   early_refs rs = flat_map (λ r. early low (names_of_ref r)) rs
 
-  more_refs : (ds : List RefTree) → Within Late (many (behind signs.Comma ref)) ds → early_refs ds ≡ []
+  more_refs : (ds : List RefTree) → Within Late (many (behind_sign signs.Comma ref)) ds → early_refs ds ≡ []
   unfolding Within
   more_refs [] each = refl
   more_refs (d ∷ ds) each =

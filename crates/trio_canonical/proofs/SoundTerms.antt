@@ -8,8 +8,7 @@ use Rattle.std.proofs.lemmas.List.Folds.{list_all-map}
 use Rattle.trio_types.specs.declared.spec.Item.{Item}
 use Rattle.trio_types.specs.declared.formula.Term.{Term}
 use Rattle.trio_types.specs.World.{World}
-use Rattle.trio_types.specs.Kinds.{Use, Gathered, gathered, kind_in, term_uses, is_right, in_role, part, argument, of_item, argument_uses}
-use Rattle.trio_types.specs.Kinds.{args_of as arguments_of}
+use Rattle.trio_types.specs.Kinds.{Use, Gathered, gathered, kind_in, term_uses, is_right, required, part, argument, of_item, argument_uses, args_of}
 use Rattle.trio_types.proofs.Lists.{all_left, all_right, map-map}
 use Rattle.trio_types.proofs.KindsAt.{gathered-Read, gathered-Sum, gathered-Times}
 use Rattle.trio_syntax.specs.declared.tree.TermTree.{TermTree, out-TermTree}
@@ -23,7 +22,7 @@ use Rattle.trio_scope.specs.Places.{unless}
 use Rattle.trio_scope.specs.Gather.{Variable, places_in_term, places_in_shape}
 use Rattle.trio_scope.proofs.Gathers.{in-term, in-Number, in-Truth, in-Named, in-Call, in-Sum, in-Times}
 use Rattle.trio_reader.specs.Erasure.{domains_of, world_of_tree, shape_of, term_of, part_from, sense_of, sense_term, sense_item, item_count}
-use Rattle.trio_reader.specs.Kinds.{Placed, placed, wrong_places, kind_of, role_uses, args_of, argument_use, item_use, shape_uses, own_uses, kind_finding}
+use Rattle.trio_reader.specs.Kinds.{PlacedUse, placed, wrong_places, kind_of, role_uses, argument_use, item_use, shape_uses, own_uses, kind_finding}
 use Rattle.trio_reader.proofs.Erased.{term-shape, shape-Named, shape-Call, shape-Sum, shape-Times}
 use Rattle.trio_reader.proofs.FormedCases.{TermCases, every_shape, term_in}
 use Rattle.trio_reader.proofs.FormedNumbers.{flat_all_of}
@@ -31,8 +30,8 @@ use Rattle.trio_reader.proofs.FormedTerms.{all_both, placed_right, signed_parts}
 use Rattle.trio_canonical.proofs.SoundPhases.{both_empty, passes, each_empty, all_empty}
 
 -- where each use is right, no place is wrong
-pub none_wrong : (us : List Placed) → list_all placed_right us ≡ true → wrong_places us ≡ []
-none_wrong us all = all_empty (λ (u : Placed). unless (is_right u.use_) u.place) placed_right (λ u is. passes (is_right u.use_) u.place is) us all
+pub none_wrong : (us : List PlacedUse) → list_all placed_right us ≡ true → wrong_places us ≡ []
+none_wrong us all = all_empty (λ (u : PlacedUse). unless (is_right u.use_) u.place) placed_right (λ u is. passes (is_right u.use_) u.place is) us all
 
 pub one_placed : (p : ℕ) (u : Use) → is_right u ≡ true → list_all placed_right (placed p u ∷ []) ≡ true
 one_placed p u is = and_from (is_right u) true is refl
@@ -77,7 +76,7 @@ module _ (tree : SpecTree) where
   arguments_placed e [] args all = refl
   arguments_placed e (d ∷ ds) [] all = refl
   arguments_placed e (d ∷ ds) (a ∷ as_) all =
-      let both = and_parts (is_right (in_role (argument (kind_in world d)) (kind_of tree e a))) (list_all is_right (argument_uses world ds (map (gathered_of e) as_))) all in
+      let both = and_parts (is_right (required (argument (kind_in world d)) (kind_of tree e a))) (list_all is_right (argument_uses world ds (map (gathered_of e) as_))) all in
       and_from (placed_right (argument_use tree e (d, a))) (list_all placed_right (map (argument_use tree e) (zip ds as_))) both.0
       (arguments_placed e ds as_ both.1)
 
@@ -100,17 +99,17 @@ module _ (tree : SpecTree) where
         let terms : List Term = map (λ t. term_of tree t e) args in
         let gs : List Gathered = map (gathered_of e) args in
         let same : map (gathered world (domains_of tree e)) terms ≡ gs = map-map (gathered world (domains_of tree e)) (λ t. term_of tree t e) args in
-        let own : List Use = argument_uses world (arguments_of o) gs in
+        let own : List Use = argument_uses world (args_of o) gs in
         let below : List Use = flat_map (λ (g : Gathered). g.uses true) gs in
         let read = and_parts (is_right (of_item inside (option_map (λ (item : Item). length item.args) o) (length gs))) (list_all is_right (own ++ below))
         (sym (ap (uses_right e inside) (shape-Call tree e m args)
         ∙ ap (λ (g : Gathered). list_all is_right (g.uses inside)) (gathered-Read world (domains_of tree e) n terms)
         ∙ ap (λ hs. list_all is_right (of_item inside (option_map (λ (item : Item). length item.args) o) (length hs)
-        ∷ argument_uses world (arguments_of o) hs ++ flat_map (λ (g : Gathered). g.uses true) hs)) same) ∙ all) in (
+        ∷ argument_uses world (args_of o) hs ++ flat_map (λ (g : Gathered). g.uses true) hs)) same) ∙ all) in (
           ap (λ s. list_all placed_right (shape_uses tree e inside s)) (shape.outs-Call m args)
               ∙ and_from (is_right (item_use tree inside n (length args))) (list_all placed_right (map (argument_use tree e) (zip (args_of o) args)))
               (sym (ap (λ k. is_right (item_use tree inside n k)) (length-map args (gathered_of e))) ∙ read.0)
-              (arguments_placed e (arguments_of o) args (all_left is_right own below read.1)),
+              (arguments_placed e (args_of o) args (all_left is_right own below read.1)),
           in-Call (kind_finding tree) e inside m args
               ∙ each_empty (λ t. ShapeRight (out-TermTree t).shape) (λ t. places_in_term (kind_finding tree) t e role.Argument true)
               (λ t. uses_right e true (term_of tree t e)) (λ t is yes. of_term t is e role.Argument true refl yes) args each
@@ -119,30 +118,30 @@ module _ (tree : SpecTree) where
     at_sum = λ ps each e inside all.
         let of_part : PartTree → Gathered = λ p. gathered_of e (out-PartTree p).term in
         let gs : List Gathered = map of_part ps in
-        let kinds : List Use = map (λ (g : Gathered). in_role part g.kind) gs in
+        let kinds : List Use = map (λ (g : Gathered). required part g.kind) gs in
         let below : List Use = flat_map (λ (g : Gathered). g.uses inside) gs in
         let right = sym (ap (uses_right e inside) (shape-Sum tree e ps)
         ∙ ap (λ (g : Gathered). list_all is_right (g.uses inside)) (gathered-Sum world (domains_of tree e) (map (λ p. part_from tree p e) ps))
-        ∙ ap (λ hs. list_all is_right (map (λ (g : Gathered). in_role part g.kind) hs ++ flat_map (λ (g : Gathered). g.uses inside) hs)) (signed_parts tree e ps)) ∙ all in (
+        ∙ ap (λ hs. list_all is_right (map (λ (g : Gathered). required part g.kind) hs ++ flat_map (λ (g : Gathered). g.uses inside) hs)) (signed_parts tree e ps)) ∙ all in (
           ap (λ s. list_all placed_right (shape_uses tree e inside s)) (shape.outs-Sum ps),
           in-Sum (kind_finding tree) e inside ps
               ∙ each_empty (λ p. ShapeRight (term_in p)) (λ p. places_in_term (kind_finding tree) (out-PartTree p).term e role.Part inside)
-              (λ p. is_right (in_role part (of_part p).kind) && list_all is_right ((of_part p).uses inside))
-              (λ p is yes. let b = and_parts (is_right (in_role part (of_part p).kind)) (list_all is_right ((of_part p).uses inside)) yes in
+              (λ p. is_right (required part (of_part p).kind) && list_all is_right ((of_part p).uses inside))
+              (λ p is yes. let b = and_parts (is_right (required part (of_part p).kind)) (list_all is_right ((of_part p).uses inside)) yes in
               of_term (out-PartTree p).term is e role.Part inside
-              (one_placed (out-TermTree (out-PartTree p).term).place (in_role part (of_part p).kind) b.0) b.1) ps each
-              (all_and (λ p. is_right (in_role part (of_part p).kind)) (λ p. list_all is_right ((of_part p).uses inside)) ps
-              (sym (list_all-map is_right (λ (g : Gathered). in_role part g.kind) gs ∙ list_all-map (λ (g : Gathered). is_right (in_role part g.kind)) of_part ps)
+              (one_placed (out-TermTree (out-PartTree p).term).place (required part (of_part p).kind) b.0) b.1) ps each
+              (all_and (λ p. is_right (required part (of_part p).kind)) (λ p. list_all is_right ((of_part p).uses inside)) ps
+              (sym (list_all-map is_right (λ (g : Gathered). required part g.kind) gs ∙ list_all-map (λ (g : Gathered). is_right (required part g.kind)) of_part ps)
               ∙ all_left is_right kinds below right)
               (sym (flat_all_of is_right (λ (g : Gathered). g.uses inside) of_part ps) ∙ all_right is_right kinds below right)),
         );
     at_times = λ n t is e inside all.
-        let both = and_parts (is_right (in_role part (kind_of tree e t))) (uses_right e inside (term_of tree t e))
+        let both = and_parts (is_right (required part (kind_of tree e t))) (uses_right e inside (term_of tree t e))
         (sym (ap (uses_right e inside) (shape-Times tree e n t)
         ∙ ap (λ (g : Gathered). list_all is_right (g.uses inside)) (gathered-Times world (domains_of tree e) n.number (term_of tree t e))) ∙ all) in (
           ap (λ s. list_all placed_right (shape_uses tree e inside s)) (shape.outs-Times n t),
           in-Times (kind_finding tree) e inside n t
-              ∙ of_term t is e role.Factor inside (one_placed (out-TermTree t).place (in_role part (kind_of tree e t)) both.0) both.1,
+              ∙ of_term t is e role.Factor inside (one_placed (out-TermTree t).place (required part (kind_of tree e t)) both.0) both.1,
         );
   }
 

@@ -37,8 +37,8 @@ use Rattle.trio_syntax.specs.Forms.{either}
 use Rattle.trio_reader.specs.Erasure.{integer_of, values_kind, domain_from, item_from, domain_of}
 use Rattle.trio_reader.proofs.FormedCases.{Each}
 use Rattle.trio_print.specs.Pieces.{Piece, line_end, lexemes_in}
-use Rattle.trio_print.specs.Canonical.{sign, name_, spaced, joined, comma, listed, integer, ended, values_text, domain_text, item_text, at_text, claim_text, spec_pieces, text_of_formula}
-use Rattle.trio_print.specs.Canonical.{ref as ref_text}
+use Rattle.trio_print.specs.Canonical.{sign, name_, spaced, joined_pieces, comma, listed_pieces, integer, ended, values_pieces, domain_text, item_text, at_text, claim_text, spec_pieces, text_of_formula}
+use Rattle.trio_print.specs.Canonical.{ref_pieces}
 use Rattle.trio_canonical.proofs.Told.{Told, told_text, told_empty, told_one, told_seq, told_left, told_right, told_both, told_behind, told_before, told_round, told_many, told_many_then, told_listed, Pairwise, Split}
 use Rattle.trio_canonical.proofs.Texts.{lexemes-append, lexemes-round, lexemes-flat_map, lexemes-joined}
 use Rattle.trio_canonical.proofs.Meant.{bool_first, Meant}
@@ -77,7 +77,7 @@ names_told : (names : List (List ℕ)) → Each (λ name. Told a_name (IsNamed n
 names_told [] = tt
 names_told (n ∷ ns) = (told_one n (λ p. refl), names_told ns)
 
-values_told : (k : DomainKind) → (k ≡ kind.Bool → ⊥) → values_fit k ≡ true → Told domain_values (λ v. values_kind v ≡ k) (lexemes_in (values_text k))
+values_told : (k : DomainKind) → (k ≡ kind.Bool → ⊥) → values_fit k ≡ true → Told domain_values (λ v. values_kind v ≡ k) (lexemes_in (values_pieces k))
 values_told kind.Bool other fit = absurd (other refl)
 values_told (kind.Range low high) other fit =
     told_text
@@ -93,7 +93,7 @@ values_told (kind.Words []) other fit =
 values_told (kind.Words (w ∷ ws)) other fit =
     told_text
     (sym (ap (λ z. lexeme.Sign signs.LeftBrace ∷ z)
-    (lexemes-append (joined comma (map name_ (w ∷ ws))) (sign signs.RightBrace)
+    (lexemes-append (joined_pieces comma (map name_ (w ∷ ws))) (sign signs.RightBrace)
     ∙ ap (λ z. z ++ lexeme.Sign signs.RightBrace ∷ []) (lexemes-joined comma signs.Comma refl name_ w ws))))
     (told_left
     (told_seq {P = λ u. Unit {0}} {Q = Pairwise IsNamed (w ∷ ws)} (λ p u ms one pairs. ap kind.Words (names_are (w ∷ ws) ms pairs))
@@ -111,7 +111,7 @@ same_domain d m v named is = λ i. record { name = named i; kind = is i }
 domain_told : (d : Domain) → (d.kind ≡ kind.Bool → ⊥) → values_fit d.kind ≡ true → Told (either item domain) (DomainStands d) (lexemes_in (domain_text d))
 domain_told d other fit =
     told_right (told_text
-    (sym (ap (λ z. lexeme.Word word.Domain ∷ lexeme.Name d.name ∷ lexeme.Sign signs.Eq ∷ z) (lexemes-ended (values_text d.kind))))
+    (sym (ap (λ z. lexeme.Word word.Domain ∷ lexeme.Name d.name ∷ lexeme.Sign signs.Eq ∷ z) (lexemes-ended (values_pieces d.kind))))
     (told_seq {P = λ u. Unit {0}} {Q = λ r. (r.0.name ≡ d.name) × (values_kind r.1 ≡ d.kind)}
     (λ p u r one good. record { tree = record { name = r.0; values = r.1 }; is = refl; same = same_domain d r.0 r.1 good.0 good.1 })
     (told_one tt (λ p. tt))
@@ -144,24 +144,24 @@ same_item parts i t input named args value whole meant right =
     let last = value.is whole meant (and_parts (has_kind (kind_in (world_of_parts parts) i.value)) true (all_right is_right (map each i.args) (each i.value ∷ []) split)).0 in
     λ j. record { name = named j; input = input j; args = first j; value = last j }
 
-each_ref : (parts : Parts) (ds : List ℕ) → Each (λ d. Told ref (RefStands parts d) (lexemes_in (ref_text parts d))) ds
+each_ref : (parts : Parts) (ds : List ℕ) → Each (λ d. Told ref (RefStands parts d) (lexemes_in (ref_pieces parts d))) ds
 each_ref parts [] = tt
 each_ref parts (d ∷ ds) = (ref_told parts d, each_ref parts ds)
 
-refs_told : (parts : Parts) (ds : List ℕ) → Told refs (Pairwise (RefStands parts) ds) (lexemes_in (listed (map (ref_text parts) ds)))
+refs_told : (parts : Parts) (ds : List ℕ) → Told refs (Pairwise (RefStands parts) ds) (lexemes_in (listed_pieces (map (ref_pieces parts) ds)))
 refs_told parts [] = told_right (told_empty tt)
 refs_told parts (d ∷ ds) =
     told_text
-    (sym (lexemes-round (joined comma (map (ref_text parts) (d ∷ ds)))
-    ∙ ap (λ z. lexeme.Sign signs.LeftRound ∷ (z ++ lexeme.Sign signs.RightRound ∷ [])) (lexemes-joined comma signs.Comma refl (ref_text parts) d ds)))
-    (told_left (told_round (told_listed ref (RefStands parts) (λ d. lexemes_in (ref_text parts d)) signs.Comma d ds (each_ref parts (d ∷ ds)))))
+    (sym (lexemes-round (joined_pieces comma (map (ref_pieces parts) (d ∷ ds)))
+    ∙ ap (λ z. lexeme.Sign signs.LeftRound ∷ (z ++ lexeme.Sign signs.RightRound ∷ [])) (lexemes-joined comma signs.Comma refl (ref_pieces parts) d ds)))
+    (told_left (told_round (told_listed ref (RefStands parts) (λ d. lexemes_in (ref_pieces parts d)) signs.Comma d ds (each_ref parts (d ∷ ds)))))
 
 item_tokens : (parts : Parts) (i : Item) → lexemes_in (item_text parts i)
     ≡ lexeme.Word (item_word i.input) ∷ lexeme.Name i.name
-    ∷ (lexemes_in (listed (map (ref_text parts) i.args)) ++ (lexeme.Sign signs.Colon ∷ (lexemes_in (ref_text parts i.value) ++ lexeme.Sign signs.Semi ∷ [])))
+    ∷ (lexemes_in (listed_pieces (map (ref_pieces parts) i.args)) ++ (lexeme.Sign signs.Colon ∷ (lexemes_in (ref_pieces parts i.value) ++ lexeme.Sign signs.Semi ∷ [])))
 item_tokens parts i =
-    let args : List Piece = listed (map (ref_text parts) i.args) in
-    let value : List Piece = ref_text parts i.value in
+    let args : List Piece = listed_pieces (map (ref_pieces parts) i.args) in
+    let value : List Piece = ref_pieces parts i.value in
     ap (λ z. lexeme.Word (item_word i.input) ∷ lexeme.Name i.name ∷ z)
     (lexemes-ended (args ++ spaced signs.Colon ++ value)
     ∙ rw (lexemes-append (args ++ spaced signs.Colon) value, lexemes-append args (spaced signs.Colon))

@@ -15,7 +15,7 @@ use Rattle.trio_types.specs.declared.formula.Term.TheVariants as term
 use Rattle.trio_types.specs.declared.formula.SignedTerm.{SignedTerm, out-SignedTerm}
 use Rattle.trio_types.specs.World.{World}
 use Rattle.trio_types.specs.Parts.{Parts, world_of_parts}
-use Rattle.trio_types.specs.Kinds.{Kind, no_kind, number, truth_value, word, has_kind, kind_of_constant, kind_if_constant, Gathered, gathered, term_uses, is_right, is_arity, in_role, part, Use, argument_uses, args_of}
+use Rattle.trio_types.specs.Kinds.{Kind, no_kind, number, truth_value, word, has_kind, kind_of_constant, kind_if_constant, Gathered, gathered, term_uses, is_right, is_arity, required, part, Use, argument_uses, args_of}
 use Rattle.trio_types.specs.Shape.{makes_sum}
 use Rattle.trio_types.proofs.ShapeAt.{shape_of_part}
 use Rattle.trio_types.proofs.Lists.{all_left, all_right}
@@ -267,7 +267,7 @@ module _ (parts : Parts) where
   stands_parts names ps p ts pairs = record {
     is = λ tree around vs inside fits right.
         let gs : List Gathered = map (λ (p : SignedTerm). gathered (world_of_parts parts) vs (out-SignedTerm p).term) ps in
-        let uses = all_right is_right (map (λ (g : Gathered). in_role part g.kind) gs) (flat_map (λ (g : Gathered). g.uses inside) gs)
+        let uses = all_right is_right (map (λ (g : Gathered). required part g.kind) gs) (flat_map (λ (g : Gathered). g.uses inside) gs)
         (sym (ap (λ (g : Gathered). list_all is_right (g.uses inside)) (gathered-Sum (world_of_parts parts) vs ps)) ∙ right) in
         term-shape tree (record { place = p; shape = shape.Sum ts }) around ∙ shape-Sum tree around ts
         ∙ ap term.Sum (parts_stand names ps ts pairs tree around vs inside fits

@@ -25,7 +25,7 @@ use Rattle.trio_syntax.specs.Words.{adding_sign, truth_word}
 use Rattle.trio_syntax.specs.Forms.{Form, seq, row, adding, term, summand, factor, basic}
 use Rattle.trio_syntax.specs.Grammar.{a, signed, arguments}
 use Rattle.trio_print.specs.Pieces.{Piece, lexemes_in}
-use Rattle.trio_print.specs.Canonical.{Printed, TermText, term_text, text_of_term, same_text, sign, word_, name_, read_text, listed, comma, joined, in_square, sum_text, product_text, later_part, item_name, word_name, constant}
+use Rattle.trio_print.specs.Canonical.{Printed, TermText, term_text, text_of_term, same_text, sign, word_, name_, read_text, listed_pieces, comma, joined_pieces, in_square, sum_text, product_text, later_part, item_name, word_name, constant}
 use Rattle.trio_reader.proofs.FormedCases.{Each}
 use Rattle.trio_canonical.proofs.Told.{Told, told_text, told_empty, told_one, told_row, told_seq, told_left, told_right, told_both, told_before, told_none, told_many, told_listed, Pairwise, each_map}
 use Rattle.trio_canonical.proofs.Texts.{lexemes-append, lexemes-round, lexemes-square, lexemes-flat_map, lexemes-joined, text_of_part, text-Number, text-Value, text-Var, text-Read, text-Sum, text-Times}
@@ -103,20 +103,20 @@ module _ (parts : Parts) (names : List (List ℕ)) where
   plain_texts args = map (λ (t : TermText). t.plain names) (map (text_of_term parts) args)
 
   arguments_text : (args : List Term) → Each (λ x. Told (row term) (Stands parts names x) (plain_text x)) args →
-      Told arguments (ArgumentsStand parts names args) (lexemes_in (listed (plain_texts args)))
+      Told arguments (ArgumentsStand parts names args) (lexemes_in (listed_pieces (plain_texts args)))
   arguments_text [] each = told_right (told_empty tt)
   arguments_text (x ∷ xs) each =
-      let same : lexemes_in (joined comma (plain_texts (x ∷ xs))) ≡ plain_text x ++ flat_map (λ y. lexeme.Sign signs.Comma ∷ plain_text y) xs =
-      ap (λ ts. lexemes_in (joined comma ts)) (map-map (λ (t : TermText). t.plain names) (text_of_term parts) (x ∷ xs))
+      let same : lexemes_in (joined_pieces comma (plain_texts (x ∷ xs))) ≡ plain_text x ++ flat_map (λ y. lexeme.Sign signs.Comma ∷ plain_text y) xs =
+      ap (λ ts. lexemes_in (joined_pieces comma ts)) (map-map (λ (t : TermText). t.plain names) (text_of_term parts) (x ∷ xs))
       ∙ lexemes-joined comma signs.Comma refl (λ y. (text_of_term parts y).plain names) x xs in
-      told_text (sym (lexemes-round (joined comma (plain_texts (x ∷ xs))) ∙ ap (λ z. lexeme.Sign signs.LeftRound ∷ (z ++ lexeme.Sign signs.RightRound ∷ [])) same))
+      told_text (sym (lexemes-round (joined_pieces comma (plain_texts (x ∷ xs))) ∙ ap (λ z. lexeme.Sign signs.LeftRound ∷ (z ++ lexeme.Sign signs.RightRound ∷ [])) same))
       (told_left
       (told_seq {P = λ u. Unit {0}} {Q = Pairwise (Stands parts names) (x ∷ xs)} (λ p u ts one good. good) (told_one tt (λ p. tt))
       (told_before signs.RightRound (told_listed (row term) (Stands parts names) plain_text signs.Comma x xs each))))
 
   read_text_told : (number_of : ℕ) (args : List Term) → Each (λ x. Told (row term) (Stands parts names x) (plain_text x)) args →
       Told (row basic) (Stands parts names (terms.Read number_of args))
-      (lexeme.Name (item_name (slice_get parts.items number_of)) ∷ lexemes_in (listed (plain_texts args)))
+      (lexeme.Name (item_name (slice_get parts.items number_of)) ∷ lexemes_in (listed_pieces (plain_texts args)))
   read_text_told number_of args each =
       told_row basic (told_right (told_right
       (told_seq {P = λ (m : Mention). m.name ≡ item_name (slice_get parts.items number_of)} {Q = ArgumentsStand parts names args}

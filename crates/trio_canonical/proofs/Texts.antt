@@ -25,7 +25,7 @@ use Rattle.trio_types.specs.declared.formula.Formula.TheViews.{roll-Formula}
 use Rattle.trio_types.specs.Parts.{Parts}
 use Rattle.trio_types.proofs.Lists.{map_same}
 use Rattle.trio_print.specs.Pieces.{Piece, token, lexemes_in}
-use Rattle.trio_print.specs.Canonical.{TermText, PartText, term_text, part_text, text_of_term, FormulaText, formula_text, text_of_formula, in_round, in_square, joined}
+use Rattle.trio_print.specs.Canonical.{TermText, PartText, term_text, part_text, text_of_term, FormulaText, formula_text, text_of_formula, in_round, in_square, joined_pieces}
 
 -- tokens of texts behind one another
 pub lexemes-append : (x y : List Piece) → lexemes_in (x ++ y) ≡ lexemes_in x ++ lexemes_in y
@@ -50,7 +50,7 @@ later between s is f (x ∷ xs) =
 
 -- with a symbol between them
 pub lexemes-joined : {X : Type 0} (between : List Piece) (s : Symbol) → lexemes_in between ≡ lexeme.Sign s ∷ [] → (f : X → List Piece) (x : X) (xs : List X) →
-    lexemes_in (joined between (map f (x ∷ xs))) ≡ lexemes_in (f x) ++ flat_map (λ y. lexeme.Sign s ∷ lexemes_in (f y)) xs
+    lexemes_in (joined_pieces between (map f (x ∷ xs))) ≡ lexemes_in (f x) ++ flat_map (λ y. lexeme.Sign s ∷ lexemes_in (f y)) xs
 lexemes-joined between s is f x xs =
     lexemes-append (f x) (flat_map (λ y. between ++ y) (map f xs)) ∙ ap (λ z. lexemes_in (f x) ++ z) (later between s is f xs)
 

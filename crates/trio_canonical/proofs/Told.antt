@@ -6,15 +6,15 @@ use Rattle.trio_text.specs.declared.lexeme.Lexeme.{Lexeme}
 use Rattle.trio_text.specs.declared.lexeme.Lexeme.TheVariants as lexeme
 use Rattle.trio_text.specs.declared.token.Symbol.{Symbol}
 use Rattle.trio_text.specs.declared.token.Symbol.TheVariants as signs
-use Rattle.trio_syntax.specs.Forms.{Sort, Meaning, token_of, Row, Tree, Form, empty, one, row, seq, either, many}
-use Rattle.trio_syntax.specs.Grammar.{body, behind, before, round, both, listed, Says}
+use Rattle.trio_syntax.specs.Forms.{Sort, SortValue, token_of, Nonterminal, Tree, Form, empty, one, row, seq, either, many}
+use Rattle.trio_syntax.specs.Grammar.{production, behind_sign, before_sign, round, both, listed, Derives}
 use Rattle.trio_syntax.proofs.Says.{says_empty, says_one, says_row, says_seq, says_left, says_right, says_none, says_more}
 use Rattle.trio_reader.proofs.FormedCases.{Each}
 
 -- at this place
 pub record Tells {A : Type 0} (g : Form A) (P : A → Type 0) (text : List Lexeme) (p : ℕ) : Type 0 where
   pub value : A
-  pub says : Says g p text value
+  pub says : Derives g p text value
   pub good : P value
 
 -- at every place
@@ -30,11 +30,11 @@ told_map give t = record { at = λ p. let u = t.at p in record { value = u.value
 pub told_empty : {A : Type 0} {v : A} {P : A → Type 0} → P v → Told (empty v) P []
 told_empty {v = v} good = record { at = λ p. record { value = v; says = says_empty p; good = good } }
 
-pub told_one : {A : Type 0} {sort : Sort} {value : ℕ → Meaning sort → A} {P : A → Type 0} (m : Meaning sort) → ((p : ℕ) → P (value p m)) →
+pub told_one : {A : Type 0} {sort : Sort} {value : ℕ → SortValue sort → A} {P : A → Type 0} (m : SortValue sort) → ((p : ℕ) → P (value p m)) →
     Told (one sort value) P (token_of sort m ∷ [])
 told_one {value = value} m good = record { at = λ p. record { value = value p m; says = says_one p m; good = good p } }
 
-pub told_row : (r : Row) {P : Tree r → Type 0} {x : List Lexeme} → Told (body r) P x → Told (row r) P x
+pub told_row : (r : Nonterminal) {P : Tree r → Type 0} {x : List Lexeme} → Told (production r) P x → Told (row r) P x
 told_row r t = record { at = λ p. let u = t.at p in record { value = u.value; says = says_row u.says; good = u.good } }
 
 pub told_seq : {A B C : Type 0} {g : Form B} {h : Form C} {value : ℕ → B → C → A} {P : B → Type 0} {Q : C → Type 0} {R : A → Type 0} {x y : List Lexeme} →
@@ -56,10 +56,10 @@ pub told_both : {A B : Type 0} {g : Form A} {h : Form B} {P : A → Type 0} {Q :
     Told (both g h) (λ r. P r.0 × Q r.1) (x ++ y)
 told_both first second = told_seq (λ p v w one two. (one, two)) first second
 
-pub told_behind : {A : Type 0} {g : Form A} {P : A → Type 0} {x : List Lexeme} (s : Symbol) → Told g P x → Told (behind s g) P (lexeme.Sign s ∷ x)
+pub told_behind : {A : Type 0} {g : Form A} {P : A → Type 0} {x : List Lexeme} (s : Symbol) → Told g P x → Told (behind_sign s g) P (lexeme.Sign s ∷ x)
 told_behind s t = told_seq {P = λ u. Unit {0}} (λ p u v one good. good) (told_one tt (λ p. tt)) t
 
-pub told_before : {A : Type 0} {g : Form A} {P : A → Type 0} {x : List Lexeme} (s : Symbol) → Told g P x → Told (before g s) P (x ++ lexeme.Sign s ∷ [])
+pub told_before : {A : Type 0} {g : Form A} {P : A → Type 0} {x : List Lexeme} (s : Symbol) → Told g P x → Told (before_sign g s) P (x ++ lexeme.Sign s ∷ [])
 told_before s t = told_seq {Q = λ u. Unit {0}} (λ p v u good one. good) t (told_one tt (λ p. tt))
 
 pub told_round : {A : Type 0} {g : Form A} {P : A → Type 0} {x : List Lexeme} → Told g P x →
@@ -117,5 +117,5 @@ pub told_listed : {X A : Type 0} (g : Form A) (R : X → A → Type 0) (text : X
     Each (λ x. Told g (R x) (text x)) (x ∷ xs) → Told (listed s g) (Pairwise R (x ∷ xs)) (text x ++ flat_map (λ y. lexeme.Sign s ∷ text y) xs)
 told_listed g R text s x xs each =
     told_seq {P = R x} {Q = Pairwise R xs} (λ p v vs good more. (good, more)) each.0
-    (told_many (behind s g) R (λ y. lexeme.Sign s ∷ text y) xs
-    (each_map (λ x. Told g (R x) (text x)) (λ x. Told (behind s g) (R x) (lexeme.Sign s ∷ text x)) (λ x t. told_behind s t) xs each.1))
+    (told_many (behind_sign s g) R (λ y. lexeme.Sign s ∷ text y) xs
+    (each_map (λ x. Told g (R x) (text x)) (λ x. Told (behind_sign s g) (R x) (lexeme.Sign s ∷ text x)) (λ x t. told_behind s t) xs each.1))

@@ -10,7 +10,7 @@ use Rattle.trio_core.specs.Three.{known_of_option, known_at, sure, core_truth3_b
 use Rattle.trio_core.specs.Stands.{world_of_core, root_truth, is_core_true_in}
 use Rattle.trio_core.specs.declared.nodes.Root.{Root}
 use Rattle.trio_types.specs.Verdict.{instants_asked}
-use Rattle.trio_core.specs.Laws.{TruthLaw, WholeTruthLaw, ShrinkLaw, WholeShrinkLaw, SingleLaw, WholeSingleLaw}
+use Rattle.trio_core.specs.Laws.{TruthLaw, WholeTruthLaw, ShrinkLaw, WholeShrinkLaw, SingleSetsLaw, WholeSingleLaw}
 use Rattle.trio_core.proofs.Stays.{Stays, stays_all, MoreKnown}
 use Rattle.trio_core.proofs.Sure.{IsKnown, sure_all}
 use Rattle.trio_core.proofs.Nodes3.{decided_stays, single_sure}
@@ -39,7 +39,7 @@ pub shrink_law : ShrinkLaw
 shrink_law w nodes sets less shrink a from e i b is =
     (decided_stays w nodes a from (known_at w sets) (known_at w less) (shrink_known w sets less shrink) e i).stays b is
 
-pub single_law : SingleLaw
+pub single_law : SingleSetsLaw
 single_law w nodes sets single a from e i =
     (core_truth_from w nodes a from e (only_table w sets) i, single_sure w nodes a from (known_at w sets) (only_table w sets) (single_known w sets single) e i)
 

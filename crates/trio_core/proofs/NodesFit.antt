@@ -21,7 +21,7 @@ use Rattle.trio_core.specs.CoreShape.{Range, Ranges, same_ranges, parts_of_node,
 use Rattle.trio_core.specs.declared.nodes.Known.TheVariants.{One}
 use Rattle.trio_core.specs.Three.{known_at, value3}
 use Rattle.trio_core.specs.Stands.{world_of_core, lie_in, from_fits, NodeAsked}
-use Rattle.trio_core.specs.Fits.{TermFits, BodyFits}
+use Rattle.trio_core.specs.Fits.{NodeTermFits, BodyFits}
 use Rattle.trio_core.proofs.TermsFit.{lie_long, lie_more, plain_known}
 
 -- the parts of the fact
@@ -118,16 +118,16 @@ part_asked core a n at k p is i values inside lie =
 
 -- terms of nodes
 fitting : (core : Core) (a : ℕ) (values : List ℤ) (reads : Bool) (x : Term) → lie_in values (ranges_round core.nodes a) ≡ true → term_fits (world_of_core core) (ranges_round core.nodes a) reads x ≡ true →
-    TermFits (world_of_core core) x values
+    NodeTermFits (world_of_core core) x values
 fitting core a values reads x lie fits = record { ranges = ranges_round core.nodes a; reads = reads; fits = fits; values_in = lie }
 
 pub atom_terms : (core : Core) (a : ℕ) (r : Rel) (x y : Term) (values : List ℤ) → slice_get core.nodes a ≡ Some (node.Atom r x y) → lie_in values (ranges_round core.nodes a) ≡ true →
-    TermFits (world_of_core core) x values × TermFits (world_of_core core) y values
+    NodeTermFits (world_of_core core) x values × NodeTermFits (world_of_core core) y values
 atom_terms core a r x y values at lie =
     let both = and_parts (term_fits (world_of_core core) (ranges_round core.nodes a) true x) (term_fits (world_of_core core) (ranges_round core.nodes a) true y) (node_facts core a (node.Atom r x y) at).content in
     (fitting core a values true x lie both.0, fitting core a values true y lie both.1)
 
-pub dist_term : (core : Core) (a p : ℕ) (x : Term) (values : List ℤ) → slice_get core.nodes a ≡ Some (node.Dist p x) → lie_in values (ranges_round core.nodes a) ≡ true → TermFits (world_of_core core) x values
+pub dist_term : (core : Core) (a p : ℕ) (x : Term) (values : List ℤ) → slice_get core.nodes a ≡ Some (node.Dist p x) → lie_in values (ranges_round core.nodes a) ≡ true → NodeTermFits (world_of_core core) x values
 dist_term core a p x values at lie = fitting core a values false x lie (node_facts core a (node.Dist p x) at).content
 
 -- a distance is known

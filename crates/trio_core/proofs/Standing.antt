@@ -18,7 +18,7 @@ use Rattle.trio_core.specs.declared.nodes.Root.{Root}
 use Rattle.trio_core.specs.declared.nodes.Core.{Core}
 use Rattle.trio_core.specs.Core.{core_truth}
 use Rattle.trio_core.specs.Stands.{world_of_core, RootStandsFor, StandsFor}
-use Rattle.trio_core.specs.Laws.{StandsLaw}
+use Rattle.trio_core.specs.Laws.{CoreStandsLaw}
 
 -- roots and axioms side by side
 record StandInRow (w : World) (nodes : List Node) (roots : List Root) (claims : List Axiom) : Type 0 where
@@ -73,7 +73,7 @@ same_world core spec stands = made core.instants spec.instants core.domains spec
         ◌≡◌ {A = World} (record { instants = n; domains = ds; items = is }) (record { instants = m; domains = es; items = js })
     made n m ds es is js a b c = rw (a, b, c) refl
 
-pub stands_law : StandsLaw
+pub stands_law : CoreStandsLaw
 unfolding demands_of
 stands_law core spec stands table =
     let w = world_of_core core in

@@ -28,7 +28,7 @@ use Rattle.trio_core.specs.Core.{numbers}
 use Rattle.trio_core.specs.CoreShape.{Range, Ranges, range_bound, reaches, bound_by}
 use Rattle.trio_core.specs.Three.{known_then, known_all, known_of_cell, known_sum, known_map, known_at, value3}
 use Rattle.trio_core.specs.Stands.{lie_in}
-use Rattle.trio_core.specs.Fits.{TermFits, IsNear}
+use Rattle.trio_core.specs.Fits.{NodeTermFits, IsKnownNear}
 use Rattle.trio_core.proofs.TermCases.{Each, term_of, every_term}
 use Rattle.trio_core.proofs.TermsAt.{reaches-Value, reaches-Var, reaches-Read, reaches-Sum, reaches-Times, bound_by-Number, bound_by-Value, bound_by-Var, bound_by-Read, bound_by-Sum, bound_by-Times}
 use Rattle.trio_core.proofs.Value3At.{signed_value3, value3-Number, value3-Value, value3-Var, value3-Read, value3-Sum, value3-Times}
@@ -185,19 +185,19 @@ all_plain w e look i = every_term (Plain w e look i) (record {
 })
 
 -- what the fact of a term says
-pub term_reaches : (w : World) (x : Term) (e : List ℤ) (fits : TermFits w x e) → reaches w x (length e) fits.reads ≡ true
+pub term_reaches : (w : World) (x : Term) (e : List ℤ) (fits : NodeTermFits w x e) → reaches w x (length e) fits.reads ≡ true
 term_reaches w x e fits =
     ap (λ n. reaches w x n fits.reads) (lie_long e fits.ranges fits.values_in)
     ∙ (and_parts (reaches w x (length fits.ranges) fits.reads) (nat_le (bound_by w (map range_bound fits.ranges) x).most 1000000000000) fits.fits).0
 
-pub term_bounded : (w : World) (x : Term) (e : List ℤ) (fits : TermFits w x e) → (bound_by w (map range_bound fits.ranges) x).most ≤ 1000000000000
+pub term_bounded : (w : World) (x : Term) (e : List ℤ) (fits : NodeTermFits w x e) → (bound_by w (map range_bound fits.ranges) x).most ≤ 1000000000000
 term_bounded w x e fits =
     leb-true (bound_by w (map range_bound fits.ranges) x).most 1000000000000
     (and_parts (reaches w x (length fits.ranges) fits.reads) (nat_le (bound_by w (map range_bound fits.ranges) x).most 1000000000000) fits.fits).1
 
 -- and what makes it
 pub term_fits_by : (w : World) (x : Term) (e : List ℤ) (ranges : Ranges) (reads : Bool) → lie_in e ranges ≡ true → reaches w x (length e) reads ≡ true →
-    (bound_by w (map range_bound ranges) x).most ≤ 1000000000000 → TermFits w x e
+    (bound_by w (map range_bound ranges) x).most ≤ 1000000000000 → NodeTermFits w x e
 term_fits_by w x e ranges reads lie reach less = record {
   ranges = ranges;
   reads = reads;
@@ -206,26 +206,26 @@ term_fits_by w x e ranges reads lie reach less = record {
   values_in = lie;
 }
 
-sets_bounds : (w : World) (sets : List ℕ) (x : Term) (e : List ℤ) (fits : TermFits w x e) → Bounds w (map range_bound fits.ranges) e (known_at w sets)
+sets_bounds : (w : World) (sets : List ℕ) (x : Term) (e : List ℤ) (fits : NodeTermFits w x e) → Bounds w (map range_bound fits.ranges) e (known_at w sets)
 sets_bounds w sets x e fits = record {
   variable = lie_bounded e fits.ranges fits.values_in;
   cell = λ c item z at is. let v = known_at_one w sets c z is in
       domain_above w item.value v.0 z (ap (λ zs. slice_get zs v.0) (sym (values_from_item w c item at)) ∙ v.1);
 }
 
-pub term_near : (w : World) (sets : List ℕ) (x : Term) (e : List ℤ) (i : ℕ) → TermFits w x e → IsNear (value3 w x e (known_at w sets) i)
+pub term_near : (w : World) (sets : List ℕ) (x : Term) (e : List ℤ) (i : ℕ) → NodeTermFits w x e → IsKnownNear (value3 w x e (known_at w sets) i)
 term_near w sets x e i fits = λ z is.
     let small = (value_small w (map range_bound fits.ranges) e (known_at w sets) i (sets_bounds w sets x e fits) x).small fits.reads (term_reaches w x e fits) z is in
     omega (arith, small, (all_own_most w (map range_bound fits.ranges) x).own_most, term_bounded w x e fits)
 
 -- products and sums
-pub times_part : (w : World) (n : ℕ) (x : Term) (e : List ℤ) → TermFits w (term.Times n x) e → TermFits w x e
+pub times_part : (w : World) (n : ℕ) (x : Term) (e : List ℤ) → NodeTermFits w (term.Times n x) e → NodeTermFits w x e
 times_part w n x e fits =
     let most = ap (λ (b : Bound). b.most) (bound_by-Times w (map range_bound fits.ranges) n x) in
     term_fits_by w x e fits.ranges fits.reads fits.values_in (sym (reaches-Times w n x (length e) fits.reads) ∙ term_reaches w (term.Times n x) e fits)
     (omega (arith, most, term_bounded w (term.Times n x) e fits))
 
-pub sum_part : (w : World) (parts : List SignedTerm) (e : List ℤ) → TermFits w (term.Sum parts) e → (k : ℕ) (p : SignedTerm) → slice_get parts k ≡ Some p → TermFits w (out-SignedTerm p).term e
+pub sum_part : (w : World) (parts : List SignedTerm) (e : List ℤ) → NodeTermFits w (term.Sum parts) e → (k : ℕ) (p : SignedTerm) → slice_get parts k ≡ Some p → NodeTermFits w (out-SignedTerm p).term e
 sum_part w parts e fits k p at =
     let bounds = map range_bound fits.ranges in
     let bound = λ (p : SignedTerm). bound_by w bounds (term_of p) in
@@ -246,8 +246,8 @@ all_of_take p (suc k) [] all = refl
 all_of_take p (suc k) (x ∷ xs) all = let both = and_parts (p x) (list_all p xs) all in and_from (p x) (list_all p (take k xs)) both.0 (all_of_take p k xs both.1)
 
 -- the sum of the parts so far
-pub front_near : (w : World) (sets : List ℕ) (parts : List SignedTerm) (e : List ℤ) (i k : ℕ) → TermFits w (term.Sum parts) e →
-    IsNear (known_sum (map (λ p. signed_value3 w p e (known_at w sets) i) (take k parts)))
+pub front_near : (w : World) (sets : List ℕ) (parts : List SignedTerm) (e : List ℤ) (i k : ℕ) → NodeTermFits w (term.Sum parts) e →
+    IsKnownNear (known_sum (map (λ p. signed_value3 w p e (known_at w sets) i) (take k parts)))
 front_near w sets parts e i k fits = λ z is.
     let bounds = map range_bound fits.ranges in
     let look = known_at w sets in
@@ -278,7 +278,7 @@ world_is a b i d t =
     ∙ ap (λ is. record { instants = b.instants; domains = b.domains; items = is }) t
 
 -- reads
-read_parts : (w : World) (n : ℕ) (args : List Term) (e : List ℤ) (fits : TermFits w (term.Read n args) e) →
+read_parts : (w : World) (n : ℕ) (args : List Term) (e : List ℤ) (fits : NodeTermFits w (term.Read n args) e) →
     (is_arity (option_map (λ item. length item.args) (slice_get w.items n)) (length args) ≡ true) × (list_all (λ a. reaches w a (length e) false) args ≡ true)
 read_parts w n args e fits =
     let arity = is_arity (option_map (λ item. length item.args) (slice_get w.items n)) (length args) in
@@ -286,7 +286,7 @@ read_parts w n args e fits =
     let inside = and_parts fits.reads (arity && all) (sym (reaches-Read w n args (length e) fits.reads) ∙ term_reaches w (term.Read n args) e fits) in
     and_parts arity all inside.1
 
-pub read_item : (w : World) (n : ℕ) (args : List Term) (e : List ℤ) → TermFits w (term.Read n args) e →
+pub read_item : (w : World) (n : ℕ) (args : List Term) (e : List ℤ) → NodeTermFits w (term.Read n args) e →
     (item : Item) × (slice_get w.items n ≡ Some item) × (length item.args ≡ length args)
 read_item w n args e fits = there (slice_get w.items n) refl
   where
@@ -294,12 +294,12 @@ read_item w n args e fits = there (slice_get w.items n) refl
     there None is = absurd (false≢true (rw is at (read_parts w n args e fits).0))
     there (Some item) is = let same : length item.args ≡ length args = eqb-true (length item.args) (length args) (rw is at (read_parts w n args e fits).0) in (item, is, same)
 
-pub read_length : (w : World) (n : ℕ) (args : List Term) (e : List ℤ) → TermFits w (term.Read n args) e → (item : Item) → slice_get w.items n ≡ Some item → length item.args ≡ length args
+pub read_length : (w : World) (n : ℕ) (args : List Term) (e : List ℤ) → NodeTermFits w (term.Read n args) e → (item : Item) → slice_get w.items n ≡ Some item → length item.args ≡ length args
 read_length w n args e fits item at =
     let r = read_item w n args e fits in
     ap (λ (item : Item). length item.args) (same_Some item r.0 (sym at ∙ r.1)) ∙ r.2
 
-pub read_arg : (w : World) (n : ℕ) (args : List Term) (e : List ℤ) → TermFits w (term.Read n args) e → (k : ℕ) (x : Term) → slice_get args k ≡ Some x → TermFits w x e
+pub read_arg : (w : World) (n : ℕ) (args : List Term) (e : List ℤ) → NodeTermFits w (term.Read n args) e → (k : ℕ) (x : Term) → slice_get args k ≡ Some x → NodeTermFits w x e
 read_arg w n args e fits k x at =
     let bounds = map range_bound fits.ranges in
     let most = ap (λ (b : Bound). b.most) (bound_by-Read w bounds n args) in
@@ -309,13 +309,13 @@ read_arg w n args e fits k x at =
     (omega (arith, most, above, term_bounded w (term.Read n args) e fits))
 
 -- an argument is known
-pub arg_known : (w : World) (sets : List ℕ) (n : ℕ) (args : List Term) (e : List ℤ) (i : ℕ) → TermFits w (term.Read n args) e → (k : ℕ) (x : Term) → slice_get args k ≡ Some x →
+pub arg_known : (w : World) (sets : List ℕ) (n : ℕ) (args : List Term) (e : List ℤ) (i : ℕ) → NodeTermFits w (term.Read n args) e → (k : ℕ) (x : Term) → slice_get args k ≡ Some x →
     (z : ℤ) × (value3 w x e (known_at w sets) i ≡ One z)
 arg_known w sets n args e i fits k x at =
     (all_plain w e (known_at w sets) i x).plain (each_of (λ a. reaches w a (length e) false) args (read_parts w n args e fits).1 k x at)
 
 -- and so is a distance
-pub plain_known : (w : World) (sets : List ℕ) (x : Term) (e : List ℤ) (i : ℕ) (fits : TermFits w x e) → fits.reads ≡ false → (z : ℤ) × (value3 w x e (known_at w sets) i ≡ One z)
+pub plain_known : (w : World) (sets : List ℕ) (x : Term) (e : List ℤ) (i : ℕ) (fits : NodeTermFits w x e) → fits.reads ≡ false → (z : ℤ) × (value3 w x e (known_at w sets) i ≡ One z)
 plain_known w sets x e i fits silent = (all_plain w e (known_at w sets) i x).plain (ap (reaches w x (length e)) (sym silent) ∙ term_reaches w x e fits)
 
 pub each_arg : (w : World) (e : List ℤ) (look : Cell → Known ℤ) (i : ℕ) (args : List Term) → list_all (λ a. reaches w a (length e) false) args ≡ true →
@@ -329,7 +329,7 @@ each_arg w e look i (a ∷ args) all =
 abbrev pub arg_values : World → List ℤ → (Cell → Known ℤ) → ℕ → List Term → List (Option ℤ)
 arg_values w e look i args = map (λ a. value_if_known (value3 w a e look i)) args
 
-pub args_known : (w : World) (look : Cell → Known ℤ) (n : ℕ) (args : List Term) (e : List ℤ) (i : ℕ) → TermFits w (term.Read n args) e →
+pub args_known : (w : World) (look : Cell → Known ℤ) (n : ℕ) (args : List Term) (e : List ℤ) (i : ℕ) → NodeTermFits w (term.Read n args) e →
     known_all (map (λ a. value3 w a e look i) args) ≡ One (arg_values w e look i args)
 args_known w look n args e i fits = all_one (λ a. value3 w a e look i) args (each_arg w e look i args (read_parts w n args e fits).1)
 
@@ -347,7 +347,7 @@ item_of_cell w n zs i cell is = by_item (slice_get w.items n) is
     by_item (Some item) made = let r = map_some (λ vs. the_cell n vs i) (indexes w.domains item.args zs) cell made in ap (λ (c : Cell). c.item) (sym r.2)
 
 -- what is known of a read, by its cell
-pub read3_by_cell : (w : World) (sets : List ℕ) (n : ℕ) (args : List Term) (e : List ℤ) (i : ℕ) → TermFits w (term.Read n args) e → (o : Option Cell) →
+pub read3_by_cell : (w : World) (sets : List ℕ) (n : ℕ) (args : List Term) (e : List ℤ) (i : ℕ) → NodeTermFits w (term.Read n args) e → (o : Option Cell) →
     read_cell w n (arg_values w e (known_at w sets) i args) i ≡ o → value3 w (term.Read n args) e (known_at w sets) i ≡ known_of_cell (known_at w sets) o
 read3_by_cell w sets n args e i fits o is =
     let look = known_at w sets in

@@ -16,7 +16,7 @@ use Rattle.trio_core.specs.Three.{known_at}
 use Rattle.trio_core.specs.Stands.{lie_in, NodeAsked}
 
 -- a term fits under these values of the variables
-pub record TermFits (w : World) (x : Term) (values : List ℤ) : Type 0 where
+pub record NodeTermFits (w : World) (x : Term) (values : List ℤ) : Type 0 where
   pub ranges : Ranges
   pub reads : Bool
   pub fits : term_fits w ranges reads x ≡ true
@@ -28,8 +28,8 @@ IsCellRead w item values i None = read_cell w item values i ≡ None
 IsCellRead w item values i (Some number) = (cell : Cell) × (read_cell w item values i ≡ Some cell) × (slice_get (cells_of w) number ≡ Some cell)
 
 -- a known value is no greater than a bound
-abbrev pub IsNear : Known ℤ → Type 0
-IsNear k = (z : ℤ) → k ≡ One z → nat_abs z ≤ GREATEST_BOUND
+abbrev pub IsKnownNear : Known ℤ → Type 0
+IsKnownNear k = (z : ℤ) → k ≡ One z → nat_abs z ≤ GREATEST_BOUND
 
 -- the number of a cell of an item, whose known value is near
 pub record IsCellOf (w : World) (sets : List ℕ) (item number : ℕ) : Type 0 where
@@ -37,7 +37,7 @@ pub record IsCellOf (w : World) (sets : List ℕ) (item number : ℕ) : Type 0 w
   pub cell : Cell
   pub place : slice_get (cells_of w) number ≡ Some cell
   pub of_item : cell.item ≡ item
-  pub near : IsNear (known_at w sets cell)
+  pub near : IsKnownNear (known_at w sets cell)
 
 -- the only member of a set, or that there are several
 abbrev pub IsSole : List ℕ → Option ℕ → Type 0

@@ -29,13 +29,13 @@ WholeShrinkLaw = (core : Core) (sets less : List ℕ) → Shrink (world_of_core 
     spec_truth3 core sets ≡ sure b → spec_truth3 core less ≡ sure b
 
 -- where every set has one member alone the value is decided
-abbrev pub SingleLaw : Type 0
-SingleLaw = (w : World) (nodes : List Node) (sets : List ℕ) → AreSingle w sets → (a from : ℕ) (e : List ℤ) (i : ℕ) →
+abbrev pub SingleSetsLaw : Type 0
+SingleSetsLaw = (w : World) (nodes : List Node) (sets : List ℕ) → AreSingle w sets → (a from : ℕ) (e : List ℤ) (i : ℕ) →
     (b : Bool) × (core_truth3 w nodes a from e sets i ≡ sure b)
 
 abbrev pub WholeSingleLaw : Type 0
 WholeSingleLaw = (core : Core) (sets : List ℕ) → AreSingle (world_of_core core) sets → (b : Bool) × (spec_truth3 core sets ≡ sure b)
 
 -- a core that stands for a specification is true in the tables that make the specification true
-abbrev pub StandsLaw : Type 0
-StandsLaw = (core : Core) (spec : Spec) → StandsFor core spec → (table : List ℕ) → is_core_true_in core table ≡ is_true_in spec table
+abbrev pub CoreStandsLaw : Type 0
+CoreStandsLaw = (core : Core) (spec : Spec) → StandsFor core spec → (table : List ℕ) → is_core_true_in core table ≡ is_true_in spec table

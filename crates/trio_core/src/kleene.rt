@@ -3,7 +3,7 @@ ghost use Rattle.std.specs.Prelude.{◌≡◌, ◌<◌, ◌^◌, ◌+ℤ◌, ◌
 ghost use Rattle.trio_core.specs.Sets.{is_set, members};
 ghost use Rattle.trio_core.specs.Three.{known_both, known_map, relates3, sure, not3, and3, or3};
 ghost use Rattle.trio_types.specs.Truth.{compares};
-ghost use Rattle.trio_core.specs.Fits.{IsSole, IsNear};
+ghost use Rattle.trio_core.specs.Fits.{IsSole, IsKnownNear};
 
 use crate::nodes::{Known, Three};
 use trio_types::Rel;
@@ -43,8 +43,8 @@ pub(crate) fn either(left: Three, right: Three) -> Three
 
 /// The sum of two values.
 pub(crate) fn plus(left: Known<i64>, right: Known<i64>) -> Known<i64>
-    requires left_near { IsNear left }
-    requires right_near { IsNear right }
+    requires left_near { IsKnownNear left }
+    requires right_near { IsKnownNear right }
     ensures { result ≡ known_both (λ x y. x +ℤ y) left right }
 {
     match (left, right) {
@@ -56,7 +56,7 @@ pub(crate) fn plus(left: Known<i64>, right: Known<i64>) -> Known<i64>
 
 /// A value, or its opposite.
 pub(crate) fn signed(minus: bool, value: Known<i64>) -> Known<i64>
-    requires { IsNear value }
+    requires { IsKnownNear value }
     ensures { result ≡ (if minus then known_map neg_ℤ value else value) }
 {
     match value {
@@ -67,8 +67,8 @@ pub(crate) fn signed(minus: bool, value: Known<i64>) -> Known<i64>
 
 /// A number times a value.
 pub(crate) fn times(number: u32, value: Known<i64>) -> Known<i64>
-    requires near { IsNear value }
-    requires product_near { IsNear (known_map (λ z. pos number *ℤ z) value) }
+    requires near { IsKnownNear value }
+    requires product_near { IsKnownNear (known_map (λ z. pos number *ℤ z) value) }
     ensures { result ≡ known_map (λ z. pos number *ℤ z) value }
 {
     match value {

@@ -6,7 +6,7 @@ ghost use Rattle.trio_core.specs.Sets.{AreSets};
 ghost use Rattle.trio_core.specs.declared.nodes.Known.TheVariants.{One};
 ghost use Rattle.trio_core.specs.Three.{known_all, known_at, value3};
 ghost use Rattle.trio_core.specs.Stands.{world_of_core};
-ghost use Rattle.trio_core.specs.Fits.{TermFits, IsCellRead, IsCellOf};
+ghost use Rattle.trio_core.specs.Fits.{NodeTermFits, IsCellRead, IsCellOf};
 
 use crate::interpretation::Interpretation;
 use crate::kleene::{plus, signed, sole_member, times};
@@ -17,7 +17,7 @@ use trio_types::{SignedTerm, Term};
 #[inline]
 pub(crate) fn quick_value(under: &Interpretation<'_>, term: &Term, instant: u32) -> Known<i64>
     requires sets_fit { AreSets (world_of_core under.now.core.now) under.now.doms.now }
-    requires term_fits { TermFits (world_of_core under.now.core.now) term.now under.now.values.now }
+    requires term_fits { NodeTermFits (world_of_core under.now.core.now) term.now under.now.values.now }
     requires instant_in { instant < under.now.core.now.instants }
     ensures { result ≡ value3 (world_of_core under.now.core.now) term.now under.now.values.now (known_at (world_of_core under.now.core.now) under.now.doms.now) instant }
 {
@@ -34,7 +34,7 @@ pub(crate) fn quick_value(under: &Interpretation<'_>, term: &Term, instant: u32)
 /// What is known of the value of an item without arguments.
 fn bare_read(under: &Interpretation<'_>, item: u32, instant: u32) -> Known<i64>
     requires sets_fit { AreSets (world_of_core under.now.core.now) under.now.doms.now }
-    requires term_fits { TermFits (world_of_core under.now.core.now) (term_of.Read item []) under.now.values.now }
+    requires term_fits { NodeTermFits (world_of_core under.now.core.now) (term_of.Read item []) under.now.values.now }
     requires instant_in { instant < under.now.core.now.instants }
     ensures { result ≡ value3 (world_of_core under.now.core.now) (term_of.Read item []) under.now.values.now (known_at (world_of_core under.now.core.now) under.now.doms.now) instant }
 {
@@ -59,7 +59,7 @@ fn cell_value(core: &Core, doms: &[u64], item: u32, cell: u32) -> Known<i64>
 #[cycle(value)]
 pub fn term_value(under: Interpretation<'_>, term: &Term, instant: u32) -> Known<i64>
     requires sets_fit { AreSets (world_of_core under.core.now) under.doms.now }
-    requires term_fits { TermFits (world_of_core under.core.now) term.now under.values.now }
+    requires term_fits { NodeTermFits (world_of_core under.core.now) term.now under.values.now }
     requires instant_in { instant < under.core.now.instants }
     ensures { result ≡ value3 (world_of_core under.entry.core.now) term.now under.entry.values.now (known_at (world_of_core under.entry.core.now) under.entry.doms.now) instant }
 {
@@ -77,7 +77,7 @@ pub fn term_value(under: Interpretation<'_>, term: &Term, instant: u32) -> Known
 #[cycle(value)]
 fn read(under: Interpretation<'_>, item: u32, args: &[Term], instant: u32) -> Known<i64>
     requires sets_fit { AreSets (world_of_core under.core.now) under.doms.now }
-    requires term_fits { TermFits (world_of_core under.core.now) (term_of.Read item args.now) under.values.now }
+    requires term_fits { NodeTermFits (world_of_core under.core.now) (term_of.Read item args.now) under.values.now }
     requires instant_in { instant < under.core.now.instants }
     ensures { result ≡ value3 (world_of_core under.entry.core.now) (term_of.Read item args.now) under.entry.values.now (known_at (world_of_core under.entry.core.now) under.entry.doms.now) instant }
 {
@@ -91,7 +91,7 @@ fn read(under: Interpretation<'_>, item: u32, args: &[Term], instant: u32) -> Kn
 #[cycle(value)]
 pub fn cell_read(under: Interpretation<'_>, item: u32, args: &[Term], instant: u32) -> Option<u32>
     requires sets_fit { AreSets (world_of_core under.core.now) under.doms.now }
-    requires term_fits { TermFits (world_of_core under.core.now) (term_of.Read item args.now) under.values.now }
+    requires term_fits { NodeTermFits (world_of_core under.core.now) (term_of.Read item args.now) under.values.now }
     requires instant_in { instant < under.core.now.instants }
     ensures { (zs : List (Option ℤ)) → known_all (map (λ a. value3 (world_of_core under.entry.core.now) a under.entry.values.now (known_at (world_of_core under.entry.core.now) under.entry.doms.now) instant) args.now) ≡ One zs
         → IsCellRead (world_of_core under.entry.core.now) item zs instant result }
@@ -121,7 +121,7 @@ fn set_of(sets: &[u64], cell: u32) -> u64
 #[cycle(value)]
 fn sum(under: Interpretation<'_>, parts: &[SignedTerm], instant: u32) -> Known<i64>
     requires sets_fit { AreSets (world_of_core under.core.now) under.doms.now }
-    requires term_fits { TermFits (world_of_core under.core.now) (term_of.Sum parts.now) under.values.now }
+    requires term_fits { NodeTermFits (world_of_core under.core.now) (term_of.Sum parts.now) under.values.now }
     requires instant_in { instant < under.core.now.instants }
     ensures { result ≡ value3 (world_of_core under.entry.core.now) (term_of.Sum parts.now) under.entry.values.now (known_at (world_of_core under.entry.core.now) under.entry.doms.now) instant }
 {

@@ -18,7 +18,7 @@ use Rattle.trio_limits.specs.declared.counts.TermCounts.{TermCounts}
 use Rattle.trio_limits.specs.declared.counts.Counts.{Counts}
 use Rattle.trio_limits.specs.declared.counts.ListCounts.{ListCounts}
 use Rattle.trio_limits.specs.Given.{given_count}
-use Rattle.trio_limits.specs.Counting.{bracketed, unbracketed, term_counts_of, counts_of, formulas_of, joined_of, quantified_of}
+use Rattle.trio_limits.specs.Counting.{bracketed, unbracketed, term_counts_of, counts_of, formulas_of, connected_counts, quantified_of}
 use Rattle.trio_limits.proofs.Saturating.{given_times}
 use Rattle.trio_limits.proofs.Greatest.{greatest-last, sum-last, mapped_next}
 
@@ -83,18 +83,18 @@ module _ (w : World) (vs : List ℕ) where
       bracketed_is (formula.Not f) (greatest_bound w f vs) (instances w f + 1) (nest_of f).grouped (greatest_bound-Not w f vs) (instances-Not w f) (nest_of-Not f)
       c.bound j c.grouped (ap (λ (d : Counts). d.bound) is) (omega (arith, more, ap (λ (d : Counts). d.instances) is)) (ap (λ (d : Counts). d.grouped) is)
 
-  pub counts-And : (fs : List Formula) → joined_of w vs fs ≡ counts_of w vs (formula.And fs)
+  pub counts-And : (fs : List Formula) → connected_counts w vs fs ≡ counts_of w vs (formula.And fs)
   counts-And fs =
       bracketed_is (formula.And fs) (greatest (map (λ f. greatest_bound w f vs) fs)) (sum (map (instances w) fs) + (length fs - 1)) (greatest (map (λ f. (nest_of f).grouped) fs))
       (greatest_bound-And w fs vs) (instances-And w fs) (nest_of-And fs) _ _ _ refl refl refl
 
-  pub counts-Or : (fs : List Formula) → joined_of w vs fs ≡ counts_of w vs (formula.Or fs)
+  pub counts-Or : (fs : List Formula) → connected_counts w vs fs ≡ counts_of w vs (formula.Or fs)
   counts-Or fs =
       bracketed_is (formula.Or fs) (greatest (map (λ f. greatest_bound w f vs) fs)) (sum (map (instances w) fs) + (length fs - 1)) (greatest (map (λ f. (nest_of f).grouped) fs))
       (greatest_bound-Or w fs vs) (instances-Or w fs) (nest_of-Or fs) _ _ _ refl refl refl
 
   pub counts-joined : (fs : List Formula) (l : ListCounts) → l ≡ formulas_of w vs fs → (between j : ℕ) → between ≡ length fs - 1 →
-      j ≡ given_count (l.instances + between) → bracketed l.bound j l.grouped ≡ joined_of w vs fs
+      j ≡ given_count (l.instances + between) → bracketed l.bound j l.grouped ≡ connected_counts w vs fs
   counts-joined fs l is between j gaps added =
       let count : j ≡ given_count (sum (map (instances w) fs) + (length fs - 1)) = omega (arith, added, gaps, ap (λ (c : ListCounts). c.instances) is) in
       rw (count, is) refl

@@ -13,7 +13,7 @@ use Rattle.trio_limits.specs.declared.counts.TermCounts.{TermCounts}
 use Rattle.trio_limits.specs.declared.counts.ArgumentCounts.{ArgumentCounts}
 use Rattle.trio_limits.specs.declared.counts.PartCounts.{PartCounts}
 use Rattle.trio_limits.specs.Given.{given_count}
-use Rattle.trio_limits.specs.Counting.{leaf, term_counts_of, arguments_of, parts_of}
+use Rattle.trio_limits.specs.Counting.{leaf, term_counts_of, arguments_of, part_counts}
 use Rattle.trio_limits.proofs.Saturating.{given_small, given_times}
 use Rattle.trio_limits.proofs.Greatest.{greatest-last, sum-last, in_brackets-last, mapped_next}
 
@@ -74,7 +74,7 @@ module _ (w : World) (vs : List ℕ) where
       ∙ of_both w vs (term.Read n args) (record { own = own; most = max own inner }) (record { plain = brackets; as_part = brackets; as_factor = brackets })
       (bound_of-Read w vs n args) (nest_of_term-Read n args)
 
-  pub counts-Sum : (parts : List SignedTerm) (p : PartCounts) → p ≡ parts_of w vs parts → (most bracketed : ℕ) → most ≡ max p.own p.most →
+  pub counts-Sum : (parts : List SignedTerm) (p : PartCounts) → p ≡ part_counts w vs parts → (most bracketed : ℕ) → most ≡ max p.own p.most →
       bracketed ≡ given_count (p.as_part + 1) → the_counts p.own most p.as_part bracketed bracketed ≡ term_counts_of w vs (term.Sum parts)
   counts-Sum parts p counted most bracketed greater is =
       let bounds : List Bound = map (λ (q : SignedTerm). bound_of w vs (out-SignedTerm q).term) parts in
@@ -127,9 +127,9 @@ module _ (w : World) (vs : List ℕ) where
 
   -- one more part
   pub parts_next : (parts : List SignedTerm) (i : ℕ) (x : SignedTerm) → i < length parts → x ≡ get_or parts i x → (before : PartCounts) →
-      before ≡ parts_of w vs (take i parts) → (c : TermCounts) → c ≡ term_counts_of w vs (out-SignedTerm x).term → (own most as_part : ℕ) →
+      before ≡ part_counts w vs (take i parts) → (c : TermCounts) → c ≡ term_counts_of w vs (out-SignedTerm x).term → (own most as_part : ℕ) →
       own ≡ given_count (before.own + c.own) → most ≡ max before.most c.most → as_part ≡ max before.as_part c.as_part →
-      the_part_counts own most as_part ≡ parts_of w vs (take (i + 1) parts)
+      the_part_counts own most as_part ≡ part_counts w vs (take (i + 1) parts)
   parts_next parts i x below is before counted c more own most as_part added greater deeper =
       let b : SignedTerm → Bound = λ p. bound_of w vs (out-SignedTerm p).term in
       let n : SignedTerm → TermNest = λ p. nest_of_term (out-SignedTerm p).term in

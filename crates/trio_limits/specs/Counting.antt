@@ -52,8 +52,8 @@ arguments_of world variables args = record {
 }
 
 -- the sum of the bounds of parts, the greatest of them, and the most brackets of their texts
-abbrev pub parts_of : World → List ℕ → List SignedTerm → PartCounts
-parts_of world variables parts = record {
+abbrev pub part_counts : World → List ℕ → List SignedTerm → PartCounts
+part_counts world variables parts = record {
   own = given_count (sum (map (λ p. (bound_of world variables (out-SignedTerm p).term).own) parts));
   most = given_count (greatest (map (λ p. (bound_of world variables (out-SignedTerm p).term).most) parts));
   as_part = given_count (greatest (map (λ p. (nest_of_term (out-SignedTerm p).term).as_part) parts));
@@ -68,8 +68,8 @@ formulas_of world variables fs = record {
 }
 
 -- a conjunction or disjunction of these
-abbrev pub joined_of : World → List ℕ → List Formula → Counts
-joined_of world variables fs = bracketed
+abbrev pub connected_counts : World → List ℕ → List Formula → Counts
+connected_counts world variables fs = bracketed
     (given_count (greatest (map (λ f. greatest_bound world f variables) fs)))
     (given_count (sum (map (instances world) fs) + (length fs - 1)))
     (given_count (greatest (map (λ f. (nest_of f).grouped) fs)))

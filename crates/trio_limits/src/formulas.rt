@@ -146,7 +146,7 @@ fn joined(
     variables: &mut Vec<u32>,
     parts: &[Formula],
 ) -> Result<Counts, AllocError>
-    ensures made { IfOk result (λ c. c ≡ spec.joined_of (world_of_ground ground.now) variables.old.items parts.now) }
+    ensures made { IfOk result (λ c. c ≡ spec.connected_counts (world_of_ground ground.now) variables.old.items parts.now) }
     ensures kept { OnOk result (variables.new.items ≡ variables.old.items) }
 {
     let counts = all_counts(ground, variables, parts)?;

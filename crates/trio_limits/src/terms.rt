@@ -71,7 +71,7 @@ fn arguments_of(ground: &Ground<'_>, variables: &[u32], arguments: &[Term]) -> A
 
 #[cycle(terms)]
 fn parts_of(ground: &Ground<'_>, variables: &[u32], parts: &[SignedTerm]) -> PartCounts
-    ensures { result ≡ spec.parts_of (world_of_ground ground.now) variables.now parts.now }
+    ensures { result ≡ spec.part_counts (world_of_ground ground.now) variables.now parts.now }
 {
     let mut counts = PartCounts {
         own: 0,

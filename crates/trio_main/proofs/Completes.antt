@@ -12,7 +12,8 @@ use Rattle.trio_main.specs.declared.fault.Fault.{Fault}
 use Rattle.trio_main.specs.declared.command.Command.TheVariants as command
 use Rattle.trio_main.specs.Fault.{status_of}
 use Rattle.trio_main.specs.Message.{message}
-use Rattle.trio_main.specs.Load.{LoadFault, IsLoadedProblem}
+use Rattle.trio_main.specs.Load.{LoadFault}
+use Rattle.trio_main.specs.Loading.{IsLoadedProblem}
 use Rattle.trio_main.specs.Complete.{CompleteDue}
 use Rattle.trio_main.specs.Answer.{GivesOrWants, Answers, Ends}
 use Rattle.trio_main.proofs.Jobs.{given_ends}

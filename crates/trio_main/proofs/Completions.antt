@@ -20,7 +20,8 @@ use Rattle.trio_types.proofs.Declared.{declarations_formed}
 use Rattle.trio_core.specs.declared.nodes.Core.{Core}
 use Rattle.trio_core.specs.CoreShape.{is_core}
 use Rattle.branch_state.specs.Posed.{Posed, posed}
-use Rattle.branch_state.specs.Models.{models, all_tables}
+use Rattle.branch_state.specs.Models.{models}
+use Rattle.trio_types.specs.Tables.{all_tables}
 use Rattle.branch_state.proofs.Modeled.{models_are, models_law, models_sorted}
 use Rattle.trio_main.specs.Complete.{completions, completions_text}
 use Rattle.trio_main.specs.Laws.{IsTrueExtension}

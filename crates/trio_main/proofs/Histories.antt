@@ -6,12 +6,12 @@ use Rattle.trio_types.specs.World.{World}
 use Rattle.trio_types.specs.Cells.{rows_of, cells_of}
 use Rattle.history_table.specs.declared.fault.HistFault.{HistFault}
 use Rattle.history_table.specs.declared.fault.HistFault.TheVariants as fault
-use Rattle.history_table.specs.Lines.{Placed}
+use Rattle.history_table.specs.Lines.{NumberedLine}
 use Rattle.history_table.specs.History.{lines_fault, have_row, missing_row, if_whole, if_sound, HasHistFault, IsHistoryAnswer}
 use Rattle.history_table.specs.Fitting.{IsGiven, first_unknown}
 use Rattle.history_table.proofs.Answered.{OfLine, of_lines}
 
-whole_missing : (w : World) (lines : List Placed) (o : Option ℕ) (row : ℕ) → missing_row w lines ≡ o → if_whole w lines o ≡ Err (fault.MissingRow row) →
+whole_missing : (w : World) (lines : List NumberedLine) (o : Option ℕ) (row : ℕ) → missing_row w lines ≡ o → if_whole w lines o ≡ Err (fault.MissingRow row) →
     row < length (rows_of w)
 whole_missing w lines None row is said = cc
 whole_missing w lines (Some k) row is said =
@@ -19,7 +19,7 @@ whole_missing w lines (Some k) row is said =
     let first : missing_row w lines ≡ Some row = is ∙ ap Some same in
     (position-Some (λ r. not (have_row w lines r)) (rows_of w) row (record { item = 0; args = [] }) first).0
 
-sound_missing : (w : World) (lines : List Placed) (o : Option HistFault) (row : ℕ) → lines_fault w [] lines ≡ o → if_sound w lines o ≡ Err (fault.MissingRow row) →
+sound_missing : (w : World) (lines : List NumberedLine) (o : Option HistFault) (row : ℕ) → lines_fault w [] lines ≡ o → if_sound w lines o ≡ Err (fault.MissingRow row) →
     row < length (rows_of w)
 unfolding OfLine
 sound_missing w lines None row is said = whole_missing w lines (missing_row w lines) row refl said

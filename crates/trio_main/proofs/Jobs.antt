@@ -8,7 +8,7 @@ use Rattle.trio_main.specs.declared.command.Command.{Command}
 use Rattle.trio_main.specs.Command.{files_read}
 use Rattle.trio_main.specs.Fault.{status_of}
 use Rattle.trio_main.specs.Message.{message, usage_line}
-use Rattle.trio_main.specs.Load.{HasCause}
+use Rattle.trio_main.specs.Loading.{HasCause}
 use Rattle.trio_main.specs.Due.{Due}
 use Rattle.trio_main.proofs.FileFaults.{read_status}
 use Rattle.trio_main.specs.Answer.{IsDue, Answers, Gives, Ends, Says, Finishes}

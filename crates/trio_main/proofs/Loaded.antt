@@ -17,7 +17,8 @@ use Rattle.trio_main.specs.Message.{message}
 use Rattle.trio_main.specs.Due.{Due}
 use Rattle.trio_main.specs.Answer.{Answers}
 use Rattle.trio_main.proofs.Jobs.{cause_answers}
-use Rattle.trio_main.specs.Load.{FileFault, Yields, ReadsHistory, YieldsSpec, YieldsHistory, LoadFault, LoadCause, IsLoaded, IsLoadedProblem, HasCause}
+use Rattle.trio_main.specs.Load.{FileFault, Yields, ReadsHistory, YieldsSpec, YieldsHistory, LoadFault, IsLoaded}
+use Rattle.trio_main.specs.Loading.{HasCause, LoadCause, IsLoadedProblem}
 
 file_earlier : (which : Text) (before middle : ShelfView) (name : List ℕ) (f : Fault) (most : ℕ) → OnlyReads most before middle →
     FileFault which middle name f → FileFault which before name f

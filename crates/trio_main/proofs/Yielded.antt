@@ -14,7 +14,7 @@ use Rattle.trio_main.specs.declared.fault.Text.{Text}
 use Rattle.trio_main.specs.declared.fault.Text.TheVariants as text
 use Rattle.trio_main.specs.declared.fault.Fault.{Fault}
 use Rattle.trio_main.specs.Fault.{spec_refusal, history_refusal}
-use Rattle.trio_main.specs.Load.{limit_of, IsFile, FileFault, Yields, ReadsSpec, ReadsHistory, YieldsSpec, YieldsHistory, LoadFault, IsLoaded}
+use Rattle.trio_main.specs.Load.{most_bytes, IsFile, FileFault, Yields, ReadsSpec, ReadsHistory, YieldsSpec, YieldsHistory, LoadFault, IsLoaded}
 use Rattle.trio_main.proofs.Histories.{no_want, fault_answers}
 
 pub same_world : (a b : Spec) → parts_of a ≡ parts_of b → world_of a ≡ world_of b
@@ -34,15 +34,15 @@ not_none most file none above = rw none at above
 file_fault_one : (which : Text) (shelf : ShelfView) (name : List ℕ) (f g : Fault) → shelf.tells ≡ true → FileFault which shelf name f →
     FileFault which shelf name g → f ≡ g
 file_fault_one which shelf name f g told (inl x) (inl y) = x.0 ∙ sym y.0
-file_fault_one which shelf name f g told (inl x) (inr y) = absurd (not_none (limit_of which) (shelf.file name) (x.1 told) (y.1 told))
-file_fault_one which shelf name f g told (inr x) (inl y) = absurd (not_none (limit_of which) (shelf.file name) (y.1 told) (x.1 told))
+file_fault_one which shelf name f g told (inl x) (inr y) = absurd (not_none (most_bytes which) (shelf.file name) (x.1 told) (y.1 told))
+file_fault_one which shelf name f g told (inr x) (inl y) = absurd (not_none (most_bytes which) (shelf.file name) (y.1 told) (x.1 told))
 file_fault_one which shelf name f g told (inr x) (inr y) = x.0 ∙ sym y.0
 
 fault_or_file : (which : Text) (shelf : ShelfView) (name : List ℕ) (f : Fault) (says : List ℕ → Type 0) → shelf.tells ≡ true →
     FileFault which shelf name f → IsFile which shelf name says → ⊥
 fault_or_file which shelf name f says told (inl gone) file = cc (gone.1 told, file.there told)
 fault_or_file which shelf name f says told (inr long) file =
-    not_long (limit_of which) (shelf.file name) file.bytes (file.there told) file.within (long.1 told)
+    not_long (most_bytes which) (shelf.file name) file.bytes (file.there told) file.within (long.1 told)
 
 -- of two things that a told file yields
 yields_one : {X : Type 0} (parts : List ℕ → Result X Fault → Type 0) (same : Result X Fault → Result X Fault → Type 0) (which : Text)
@@ -71,9 +71,9 @@ module _ (one_spec : OneSpecification) (one_fault : OneFault) (none : FaultyIsNo
   reads_spec_one : (bytes : List ℕ) (a b : Result Spec Fault) → ReadsSpec bytes a → ReadsSpec bytes b → SameReading a b
   unfolding SameReading
   reads_spec_one bytes (Ok a) (Ok b) x y = one_spec bytes a b x y
-  reads_spec_one bytes (Ok a) (Err g) x y = none bytes y.0 a y.1 y.2 x
-  reads_spec_one bytes (Err f) (Ok b) x y = none bytes x.0 b x.1 x.2 y
-  reads_spec_one bytes (Err f) (Err g) x y = x.3 ∙ ap spec_refusal (one_fault bytes x.0 y.0 x.1 y.1 x.2 y.2) ∙ sym y.3
+  reads_spec_one bytes (Ok a) (Err g) x y = none bytes y.0 a y.1 x
+  reads_spec_one bytes (Err f) (Ok b) x y = none bytes x.0 b x.1 y
+  reads_spec_one bytes (Err f) (Err g) x y = x.2 ∙ ap spec_refusal (one_fault bytes x.0 y.0 x.1 y.1) ∙ sym y.2
 
   reads_history_one : (world : World) (bytes : List ℕ) (a b : Result (List (Option ℕ)) Fault) → ReadsHistory world bytes a →
       ReadsHistory world bytes b → a ≡ b

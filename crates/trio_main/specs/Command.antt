@@ -6,8 +6,8 @@ use Rattle.trio_main.specs.declared.command.Command.{Command}
 use Rattle.trio_main.specs.declared.command.Command.TheVariants as command
 
 -- the words' bytes
-abbrev pub words_of : List (String Global) → List (List ℕ)
-words_of words = map string_bytes words
+abbrev pub word_bytes : List (String Global) → List (List ℕ)
+word_bytes words = map string_bytes words
 
 -- a word that names a file: it is not empty and does not begin with `--`
 abbrev pub names_a_file : List ℕ → Bool

@@ -5,7 +5,7 @@ use Rattle.trio_types.specs.declared.spec.Spec.{Spec}
 use Rattle.trio_types.specs.Verdict.{world_of, is_true_in}
 use Rattle.history_table.specs.Fitting.{extends}
 use Rattle.history_table.specs.Texts.{list_text}
-use Rattle.branch_state.specs.Models.{all_tables}
+use Rattle.trio_types.specs.Tables.{all_tables}
 use Rattle.trio_main.specs.declared.status.Status.{Status}
 use Rattle.trio_main.specs.declared.status.Status.TheVariants as status
 use Rattle.trio_main.specs.declared.command.Command.{Command}

@@ -6,6 +6,7 @@ pub mod Due
 pub mod Fault
 pub mod Laws
 pub mod Load
+pub mod Loading
 pub mod Message
 pub mod Refusal
 pub mod Row

@@ -1,17 +1,14 @@
 -- What the file under a name yields: a value, or a fault.
-use Rattle.std.specs.Prelude.{◌≡◌, ◌≢◌, ℕ, ◌+◌, ◌≤◌, ◌⊎◌, List, length, Option, None, Some, Result, Ok, Err}
+use Rattle.std.specs.Prelude.{◌≡◌, ℕ, ◌≤◌, ◌⊎◌, List, length, Option, None, Some, Result, Ok, Err}
 use Rattle.trio_base.specs.declared.limits.TheConstants.{MOST_SPEC_BYTES, MOST_HISTORY_BYTES}
-use Rattle.trio_io.specs.Outside.{ShelfView, Holds, IsLonger, Rose}
+use Rattle.trio_io.specs.Outside.{ShelfView, Holds, IsLonger}
 use Rattle.trio_types.specs.declared.spec.Spec.{Spec}
 use Rattle.trio_types.specs.World.{World}
 use Rattle.trio_types.specs.Verdict.{world_of}
 use Rattle.trio_reader.specs.declared.fault.SpecFault.{SpecFault}
-use Rattle.trio_reader.specs.declared.fault.SpecFault.TheVariants as spec_fault
 use Rattle.trio_reader.specs.Reading.{IsSpecText, HasFault}
 use Rattle.history_table.specs.declared.fault.HistFault.{HistFault}
 use Rattle.history_table.specs.History.{IsGivenText, HasHistFault}
-use Rattle.derived_ops.specs.Rewritten.{IsRewriting}
-use Rattle.branch_state.specs.Posed.{Posed}
 use Rattle.trio_main.specs.declared.fault.Text.{Text}
 use Rattle.trio_main.specs.declared.fault.Text.TheVariants as text
 use Rattle.trio_main.specs.declared.fault.Fault.{Fault}
@@ -19,22 +16,22 @@ use Rattle.trio_main.specs.declared.fault.Fault.TheVariants as fault
 use Rattle.trio_main.specs.Fault.{spec_refusal, history_refusal}
 
 -- the most bytes that a text may have
-abbrev pub limit_of : Text → ℕ
-limit_of text.Spec = MOST_SPEC_BYTES
-limit_of text.History = MOST_HISTORY_BYTES
+abbrev pub most_bytes : Text → ℕ
+most_bytes text.Spec = MOST_SPEC_BYTES
+most_bytes text.History = MOST_HISTORY_BYTES
 
 -- The file is within its limit, and this is true of its bytes. Where the shelf does not tell its files, it is only said that there are such
 -- bytes.
 pub record IsFile (which : Text) (shelf : ShelfView) (name : List ℕ) (says : List ℕ → Type 0) : Type 0 where
   pub bytes : List ℕ
   pub there : Holds shelf name (Some bytes)
-  pub within : length bytes ≤ limit_of which
+  pub within : length bytes ≤ most_bytes which
   pub said : says bytes
 
 -- the file is not there, or is longer than its limit
 abbrev pub FileFault : Text → ShelfView → List ℕ → Fault → Type 0
 FileFault which shelf name f =
-    ((f ≡ fault.Read) × Holds shelf name None) ⊎ ((f ≡ fault.TooLong which) × IsLonger shelf name (limit_of which))
+    ((f ≡ fault.Read) × Holds shelf name None) ⊎ ((f ≡ fault.TooLong which) × IsLonger shelf name (most_bytes which))
 
 -- What a file yields: a fault of the file, or what its bytes read as.
 abbrev pub Yields : {X : Type 0} → (List ℕ → Result X Fault → Type 0) → Text → ShelfView → List ℕ → Result X Fault → Type 0
@@ -44,7 +41,7 @@ Yields reads which shelf name r =
 -- the bytes are this specification, or this is their first fault
 abbrev pub ReadsSpec : List ℕ → Result Spec Fault → Type 0
 ReadsSpec bytes (Ok spec) = IsSpecText bytes spec
-ReadsSpec bytes (Err f) = (g : SpecFault) × (g ≢ spec_fault.Memory) × HasFault bytes g × (f ≡ spec_refusal g)
+ReadsSpec bytes (Err f) = (g : SpecFault) × HasFault bytes g × (f ≡ spec_refusal g)
 
 -- the bytes are this given history, or this is their first fault
 abbrev pub ReadsHistory : World → List ℕ → Result (List (Option ℕ)) Fault → Type 0
@@ -74,31 +71,3 @@ LoadFault shelf spec_name history_name reads f =
 pub record IsLoaded (shelf : ShelfView) (spec_name history_name : List ℕ) (spec : Spec) (given : List (Option ℕ)) : Type 0 where
   pub first : YieldsSpec shelf spec_name (Ok spec)
   pub second : YieldsHistory (world_of spec) shelf history_name (Ok given)
-
--- Why there is a fault: a fetch failed and that was counted, memory was wanting, or there is cause for it, where an absence was counted if it
--- is that a file is not there.
-abbrev pub HasCause : ShelfView → ShelfView → (Fault → Type 0) → Fault → Type 0
-HasCause before now cause f =
-    ((f ≡ fault.Read) × Rose before.counts.failed_fetches now.counts.failed_fetches)
-    ⊎ ((f ≡ fault.Memory) ⊎ (cause f × (f ≡ fault.Read → Rose before.counts.absences now.counts.absences)))
-
--- why two files are no specification and history, with no more files fetched than it takes to know it
-pub record LoadCause (before now : ShelfView) (spec_name history_name : List ℕ) (f : Fault) : Type 0 where
-  pub reads : ℕ
-  pub cause : HasCause before now (LoadFault before spec_name history_name reads) f
-  pub fetched : now.counts.calls ≤ before.counts.calls + reads
-
--- the problem that the two files pose: its core is the rewritten specification
-pub record IsLoadedProblem (shelf : ShelfView) (spec_name history_name : List ℕ) (p : Posed) : Type 0 where
-  pub loaded : IsLoaded shelf spec_name history_name p.spec p.given
-  pub rewritten : IsRewriting p.core p.spec
-
--- what loading a problem ends with
-abbrev pub LoadsProblem : ShelfView → ShelfView → List ℕ → List ℕ → Result Posed Fault → Type 0
-LoadsProblem before now spec_name history_name (Ok p) = IsLoadedProblem before spec_name history_name p
-LoadsProblem before now spec_name history_name (Err f) = LoadCause before now spec_name history_name f
-
--- what loading ends with: what the file yields, or a fault with its cause
-abbrev pub Loads : {X : Type 0} → ShelfView → ShelfView → (Result X Fault → Type 0) → Result X Fault → Type 0
-Loads before now yields (Ok value) = yields (Ok value)
-Loads before now yields (Err f) = HasCause before now (λ g. yields (Err g)) f

@@ -4,11 +4,11 @@ use Rattle.trio_main.specs.declared.status.Status.{Status}
 use Rattle.trio_main.specs.declared.status.Status.TheVariants as status
 
 -- the number with which the program ends
-abbrev pub number_of : Status → ℕ
-number_of status.Done = 0
-number_of status.False = 1
-number_of status.Usage = 2
-number_of status.Refused = 4
-number_of status.ReadFault = 5
-number_of status.WriteFault = 6
-number_of status.Memory = 7
+abbrev pub status_number : Status → ℕ
+status_number status.Done = 0
+status_number status.False = 1
+status_number status.Usage = 2
+status_number status.Refused = 4
+status_number status.ReadFault = 5
+status_number status.WriteFault = 6
+status_number status.Memory = 7

@@ -1,6 +1,6 @@
 //! The words of the command line.
 ghost use Rattle.std.specs.Prelude.{◌≡◌, ◌∷◌, [], IfOk};
-ghost use Rattle.trio_main.specs.Command.{words_of, command_of, names_a_file};
+ghost use Rattle.trio_main.specs.Command.{word_bytes, command_of, names_a_file};
 
 use std::alloc::Global;
 use trio_base::Name;
@@ -25,8 +25,8 @@ pub enum WordsFault {
 
 /// The command that the words are. `Usage` comes exactly where they are none.
 pub fn read_words(alloc: Global, words: &[String]) -> Result<Command, WordsFault>
-    ensures ok { IfOk result (λ command. command_of (words_of words.now) ≡ Some command) }
-    ensures usage { result ≡ Err WordsFault.Usage → command_of (words_of words.now) ≡ None }
+    ensures ok { IfOk result (λ command. command_of (word_bytes words.now) ≡ Some command) }
+    ensures usage { result ≡ Err WordsFault.Usage → command_of (word_bytes words.now) ≡ None }
 {
     match words {
         [word, spec, history] => read_three(alloc, word.as_str(), spec.as_str(), history.as_str()),

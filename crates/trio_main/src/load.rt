@@ -3,7 +3,8 @@ ghost use Rattle.std.specs.Prelude.{◌≡◌, ◌≤◌, length, Some, IfOk, If
 ghost use Rattle.trio_io.specs.Outside.{OnlyReads, Holds};
 ghost use Rattle.trio_types.specs.Verdict.{world_of};
 ghost use Rattle.history_table.specs.Fitting.{IsGiven};
-ghost use Rattle.trio_main.specs.Load.{limit_of, FileFault, YieldsSpec, YieldsHistory, HasCause, Loads, LoadsProblem};
+ghost use Rattle.trio_main.specs.Load.{most_bytes, FileFault, YieldsSpec, YieldsHistory};
+ghost use Rattle.trio_main.specs.Loading.{HasCause, LoadsProblem, Loads};
 
 use crate::fault::{Fault, Text};
 use branch_state::{Problem, pose};
@@ -18,7 +19,7 @@ use trio_types::Spec;
 
 /// The most bytes that a text of this kind may have.
 fn limit(which: Text) -> u64
-    ensures { result ≡ limit_of which }
+    ensures { result ≡ most_bytes which }
 {
     match which {
         Text::Spec => MOST_SPEC_BYTES,
@@ -34,7 +35,7 @@ fn load_text<F: Shelf>(
     name: &Name,
 ) -> Result<Vec<u8>, Fault>
     ensures reads { OnlyReads 1 (F.seen shelf.old) (F.seen shelf.new) }
-    ensures within { IfOk result (λ bytes. length bytes.items ≤ limit_of which) }
+    ensures within { IfOk result (λ bytes. length bytes.items ≤ most_bytes which) }
     ensures there { IfOk result (λ bytes. Holds (F.seen shelf.old) name.now (Some bytes.items)) }
     ensures fault { IfErr result (HasCause (F.seen shelf.old) (F.seen shelf.new) (FileFault which (F.seen shelf.old) name.now)) }
 {

@@ -1,6 +1,6 @@
 //! How a command ended.
 ghost use Rattle.std.specs.Prelude.{◌≡◌};
-ghost use Rattle.trio_main.specs.Status.{number_of};
+ghost use Rattle.trio_main.specs.Status.{status_number};
 
 /// How a command ended.
 #[derive(Clone, Copy, Debug, PartialEq, Eq)]
@@ -24,7 +24,7 @@ pub enum Status {
 impl Status {
     /// The number with which the program ends.
     pub fn number(self) -> u8
-        ensures { result ≡ number_of self }
+        ensures { result ≡ status_number self }
     {
         match self {
             Status::Done => 0,

@@ -6,7 +6,7 @@ ghost use Rattle.trio_io.specs.MemoryShelf.{sure_seen};
 ghost use Rattle.trio_io.specs.MemorySink.{mem_written, mem_faults};
 ghost use Rattle.trio_main.specs.declared.command.Command.{Command};
 ghost use Rattle.trio_main.specs.declared.status.Status.{Status};
-ghost use Rattle.trio_main.specs.Command.{words_of, command_of};
+ghost use Rattle.trio_main.specs.Command.{word_bytes, command_of};
 ghost use Rattle.trio_main.specs.Due.{Due};
 
 mod complete_rows;
@@ -536,10 +536,10 @@ fn refused_histories_have_their_messages(rt: HostRuntime) -> Result<(), Fail> {
 
 /// Over a shelf that never fails and a sink in memory: the answer due, or want of memory, and every file as it was.
 fn sure_status(alloc: Global, words: &[String], shelf: &mut SureShelf, out: &mut MemSink) -> Status
-    ensures due { (reads : ℕ) (s : Status) (text : List ℕ) → Due (command_of (words_of words.now)) (sure_seen shelf.old) reads s text
+    ensures due { (reads : ℕ) (s : Status) (text : List ℕ) → Due (command_of (word_bytes words.now)) (sure_seen shelf.old) reads s text
         → (Rose (mem_faults out.old) (mem_faults out.new) → ⊥)
         → ((result ≡ s) × (mem_written out.new ≡ mem_written out.old ++ text)) ⊎ (result ≡ Status.Memory) }
-    ensures files { (s h name : List ℕ) → command_of (words_of words.now) ≡ Some (Command.Check s h)
+    ensures files { (s h name : List ℕ) → command_of (word_bytes words.now) ≡ Some (Command.Check s h)
         → (sure_seen shelf.new).file name ≡ (sure_seen shelf.old).file name }
 {
     let mut bell = StillBell::new();

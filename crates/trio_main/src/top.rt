@@ -1,6 +1,6 @@
 //! The top call: words, files and a sink in, a status out.
 ghost use Rattle.std.specs.Prelude.{◌≡◌, ◌≢◌, ◌⊎◌, ℕ, ◌+◌, ◌≤◌, List, None, Some};
-ghost use Rattle.trio_main.specs.Command.{words_of, command_of, files_named, saved_name};
+ghost use Rattle.trio_main.specs.Command.{word_bytes, command_of, files_named, saved_name};
 ghost use Rattle.trio_main.specs.Message.{usage_line};
 ghost use Rattle.trio_main.specs.Answer.{Said, Ends, Finishes};
 ghost use Rattle.trio_main.specs.Tell.{Tells, GivesDue, Leaves};
@@ -36,24 +36,24 @@ pub fn trio_plain<F: Shelf, K: Sink, B: Bell>(
     requires { B.armed bell.old ≡ None }
 
     // The one statement that the others read out: an answer with its cause was written to its end, or the writing of it failed.
-    ensures answer { Finishes (command_of (words_of words.now)) (F.seen shelf.old) (F.seen shelf.new) (K.seen out.old) (K.seen out.new) result }
+    ensures answer { Finishes (command_of (word_bytes words.now)) (F.seen shelf.old) (F.seen shelf.new) (K.seen out.old) (K.seen out.new) result }
 
     // What each status tells, for every command; and where nothing fails, the answer due is given, or want of memory.
-    ensures tells { Tells (command_of (words_of words.now)) (F.seen shelf.old) (F.seen shelf.new) (K.seen out.old) (K.seen out.new) result }
-    ensures due { GivesDue (command_of (words_of words.now)) (F.seen shelf.old) (F.seen shelf.new) (K.seen out.old) (K.seen out.new) result }
+    ensures tells { Tells (command_of (word_bytes words.now)) (F.seen shelf.old) (F.seen shelf.new) (K.seen out.old) (K.seen out.new) result }
+    ensures due { GivesDue (command_of (word_bytes words.now)) (F.seen shelf.old) (F.seen shelf.new) (K.seen out.old) (K.seen out.new) result }
 
     // Words that are no command are answered with the usage line, unless a write fails or memory runs out, and nothing is fetched.
-    ensures no_command { command_of (words_of words.now) ≡ None → (result ≡ Status.Usage) ⊎ ((result ≡ Status.WriteFault) ⊎ (result ≡ Status.Memory)) }
-    ensures unfetched { command_of (words_of words.now) ≡ None → F.seen shelf.new ≡ F.seen shelf.old }
+    ensures no_command { command_of (word_bytes words.now) ≡ None → (result ≡ Status.Usage) ⊎ ((result ≡ Status.WriteFault) ⊎ (result ≡ Status.Memory)) }
+    ensures unfetched { command_of (word_bytes words.now) ≡ None → F.seen shelf.new ≡ F.seen shelf.old }
 
     // What a status tells of a command, in words of its own.
-    ensures check { TellsCheck (command_of (words_of words.now)) (F.seen shelf.old) (F.seen shelf.new) (K.seen out.old) (K.seen out.new) result }
-    ensures complete { TellsComplete (command_of (words_of words.now)) (F.seen shelf.old) (F.seen shelf.new) (K.seen out.old) (K.seen out.new) result }
+    ensures check { TellsCheck (command_of (word_bytes words.now)) (F.seen shelf.old) (F.seen shelf.new) (K.seen out.old) (K.seen out.new) result }
+    ensures complete { TellsComplete (command_of (word_bytes words.now)) (F.seen shelf.old) (F.seen shelf.new) (K.seen out.old) (K.seen out.new) result }
 
     // What a call leaves: every file but one that the command saves, and a bell that is not armed. It has the shelf called at most as often as
     // the words have places of files.
-    ensures others { (name : List ℕ) → saved_name (command_of (words_of words.now)) ≢ Some name → (F.seen shelf.new).file name ≡ (F.seen shelf.old).file name }
-    ensures calls { (F.seen shelf.new).counts.calls ≤ (F.seen shelf.old).counts.calls + files_named (command_of (words_of words.now)) }
+    ensures others { (name : List ℕ) → saved_name (command_of (word_bytes words.now)) ≢ Some name → (F.seen shelf.new).file name ≡ (F.seen shelf.old).file name }
+    ensures calls { (F.seen shelf.new).counts.calls ≤ (F.seen shelf.old).counts.calls + files_named (command_of (word_bytes words.now)) }
     ensures bell { bell.new ≡ bell.old }
 {
     let _ = bell;
@@ -66,9 +66,9 @@ pub fn trio_plain<F: Shelf, K: Sink, B: Bell>(
 
 /// The words read as a command, and what it asks for.
 fn run<F: Shelf, K: Sink>(alloc: Global, words: &[String], shelf: &mut F, out: &mut K) -> Status
-    ensures leaves { Leaves (command_of (words_of words.now)) (F.seen shelf.old) (F.seen shelf.new) }
-    ensures unfetched { command_of (words_of words.now) ≡ None → F.seen shelf.new ≡ F.seen shelf.old }
-    ensures answer { Finishes (command_of (words_of words.now)) (F.seen shelf.old) (F.seen shelf.new) (K.seen out.old) (K.seen out.new) result }
+    ensures leaves { Leaves (command_of (word_bytes words.now)) (F.seen shelf.old) (F.seen shelf.new) }
+    ensures unfetched { command_of (word_bytes words.now) ≡ None → F.seen shelf.new ≡ F.seen shelf.old }
+    ensures answer { Finishes (command_of (word_bytes words.now)) (F.seen shelf.old) (F.seen shelf.new) (K.seen out.old) (K.seen out.new) result }
 {
     match read_words(alloc, words) {
         Ok(command) => serve(alloc, &command, shelf, out),

@@ -25,7 +25,7 @@ use Rattle.trio_types.proofs.Lists.{each_of, all_from_each, all_right, all_flat,
 use Rattle.trio_types.proofs.Integers.{Decides-int_le}
 use Rattle.trio_types.proofs.Specs.{Formed, formed_of, few_instants, argument_domain, value_domain}
 use Rattle.trio_print.specs.Pieces.{Piece, token, blank}
-use Rattle.trio_print.specs.Canonical.{word_, name_, number_, spaced, comma, joined, listed, integer, ref, values_text, at_text, text_of_formula, domain_text, item_text, claim_text, ended, spec_pieces}
+use Rattle.trio_print.specs.Canonical.{word_, name_, number_, spaced, comma, joined_pieces, listed_pieces, integer, ref_pieces, values_pieces, at_text, text_of_formula, domain_text, item_text, claim_text, ended, spec_pieces}
 use Rattle.trio_print.proofs.Spaced.{are_spaced}
 use Rattle.trio_print.proofs.SpacedTexts.{after_sign, one_token, brace_spaced, blanks_between, span_between, commas_spaced, named_listed, ended_spaced, statements_spaced}
 use Rattle.trio_print.proofs.PrintedNames.{variables_are_named, claim_is_named, item_is_named, domain_is_named, ref_token}
@@ -50,39 +50,39 @@ words_spaced (w ∷ ws) named =
     let both = and_parts (is_name w) (list_all is_name ws) named in
     and_from (are_spaced (name_ w)) (list_all are_spaced (map name_ ws)) (one_token (lexeme.Name w) both.0) (words_spaced ws both.1)
 
-values_spaced : (k : DomainKind) → values_fit k ≡ true → list_all is_name (words_of k) ≡ true → are_spaced (values_text k) ≡ true
+values_spaced : (k : DomainKind) → values_fit k ≡ true → list_all is_name (words_of k) ≡ true → are_spaced (values_pieces k) ≡ true
 values_spaced kind.Bool fit named = refl
 values_spaced (kind.Range low high) fit named =
     let count : ℕ = length (values_of (kind.Range low high)) in
     let ends = and_parts (is_written low) (is_written high) (and_parts (is_written low && is_written high) (nat_lt 0 count && nat_le count MOST_VALUES) fit).0 in
     span_between (integer low) (integer high) (integer_spaced low ends.0) (integer_spaced high ends.1)
-values_spaced (kind.Words words) fit named = brace_spaced (joined comma (map name_ words)) (commas_spaced (map name_ words) (words_spaced words named))
+values_spaced (kind.Words words) fit named = brace_spaced (joined_pieces comma (map name_ words)) (commas_spaced (map name_ words) (words_spaced words named))
 
 abbrev domain_line : Domain → List Piece
-domain_line domain = word_ word.Domain ++ blank ∷ name_ domain.name ++ spaced symbol.Eq ++ values_text domain.kind
+domain_line domain = word_ word.Domain ++ blank ∷ name_ domain.name ++ spaced symbol.Eq ++ values_pieces domain.kind
 
 domain_spaced : (p : Parts) → Formed p → (k : ℕ) (domain : Domain) → slice_get (drop 1 p.domains) k ≡ Some domain → are_spaced (domain_line domain) ≡ true
 domain_spaced p f k domain at =
     let named = domain_is_named p f k domain at in
     let fit = each_of (λ (d : Domain). values_fit d.kind) (drop 1 p.domains) (all_drop (λ (d : Domain). values_fit d.kind) 1 p.domains f.domains) k domain at in
-    and_from (is_name domain.name) (are_spaced (values_text domain.kind)) named.0 (values_spaced domain.kind fit named.1)
+    and_from (is_name domain.name) (are_spaced (values_pieces domain.kind)) named.0 (values_spaced domain.kind fit named.1)
 
 -- ---- items
 
-ref_spaced : (p : Parts) → Formed p → (d : ℕ) → (domain : Domain) × (slice_get p.domains d ≡ Some domain) → are_spaced (ref p d) ≡ true
+ref_spaced : (p : Parts) → Formed p → (d : ℕ) → (domain : Domain) × (slice_get p.domains d ≡ Some domain) → are_spaced (ref_pieces p d) ≡ true
 ref_spaced p f d domain =
     let one = ref_token p f d domain.0 domain.1 in
     ap are_spaced one.1 ∙ one_token one.0 one.2
 
 abbrev item_line : Parts → Item → List Piece
-item_line p item = word_ (item_word item.input) ++ blank ∷ name_ item.name ++ listed (map (ref p) item.args) ++ spaced symbol.Colon ++ ref p item.value
+item_line p item = word_ (item_word item.input) ++ blank ∷ name_ item.name ++ listed_pieces (map (ref_pieces p) item.args) ++ spaced symbol.Colon ++ ref_pieces p item.value
 
 item_spaced : (p : Parts) → Formed p → (k : ℕ) (item : Item) → slice_get p.items k ≡ Some item → are_spaced (item_line p item) ≡ true
 item_spaced p f k item at =
-    let refs = list_all-map are_spaced (ref p) item.args
-    ∙ all_from_each (λ d. are_spaced (ref p d)) item.args (λ j d is. ref_spaced p f d (argument_domain p f k item at j d is)) in
-    blanks_between symbol.Colon (token (lexeme.Name item.name) ∷ listed (map (ref p) item.args)) (ref p item.value)
-    (named_listed item.name (map (ref p) item.args) (item_is_named p f k item at) refs) (ref_spaced p f item.value (value_domain p f k item at))
+    let refs = list_all-map are_spaced (ref_pieces p) item.args
+    ∙ all_from_each (λ d. are_spaced (ref_pieces p d)) item.args (λ j d is. ref_spaced p f d (argument_domain p f k item at j d is)) in
+    blanks_between symbol.Colon (token (lexeme.Name item.name) ∷ listed_pieces (map (ref_pieces p) item.args)) (ref_pieces p item.value)
+    (named_listed item.name (map (ref_pieces p) item.args) (item_is_named p f k item at) refs) (ref_spaced p f item.value (value_domain p f k item at))
 
 -- ---- axioms and goals
 

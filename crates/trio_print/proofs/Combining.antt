@@ -8,15 +8,15 @@ use Rattle.trio_types.specs.Parts.{Parts}
 use Rattle.trio_types.specs.Verdict.{parts_of}
 use Rattle.trio_syntax.specs.Words.{adding_sign}
 use Rattle.trio_print.specs.declared.printer.Printer.{Printer}
-use Rattle.trio_print.specs.Pieces.{Piece, piece_text, text_of}
-use Rattle.trio_print.specs.Canonical.{Printed, PartText, spaced, joined, first_part, later_part, sum_text}
-use Rattle.trio_print.specs.Printing.{Prints, always, between, part_sign, names_in}
+use Rattle.trio_print.specs.Pieces.{Piece, piece_text, pieces_text}
+use Rattle.trio_print.specs.Canonical.{Printed, PartText, spaced, joined_pieces, first_part, later_part, sum_text}
+use Rattle.trio_print.specs.Printing.{Prints, always, between_pieces, part_sign, names_in}
 
 -- the same pieces in other words
 pub told : {p q : Parts → Printed} {old new : Printer} → ((parts : Parts) (names : List (List ℕ)) → p parts names ≡ q parts names) →
     Prints p old new → Prints q old new
 told {p} {q} {old} {new} same prints = record {
-  text = prints.text ∙ ap (λ pieces. string_bytes old.text ++ text_of pieces) (same (parts_of old.spec.now) (names_in old));
+  text = prints.text ∙ ap (λ pieces. string_bytes old.text ++ pieces_text pieces) (same (parts_of old.spec.now) (names_in old));
   names = prints.names;
   spec = prints.spec;
 }
@@ -37,8 +37,8 @@ behind {p} {q} {old} {mid} {new} first second =
     let moved : q (parts_of mid.spec.now) (names_in mid) ≡ b =
     ap₂ (λ spec names. q (parts_of spec) (map (λ name. name.now) names)) first.spec first.names in
     record {
-      text = second.text ∙ ap₂ (λ t pieces. t ++ text_of pieces) first.text moved
-          ∙ append_assoc (string_bytes old.text) (text_of a) (text_of b)
+      text = second.text ∙ ap₂ (λ t pieces. t ++ pieces_text pieces) first.text moved
+          ∙ append_assoc (string_bytes old.text) (pieces_text a) (pieces_text b)
           ∙ ap (λ t. string_bytes old.text ++ t) (sym (flat_map-append piece_text a b));
       names = second.names ∙ first.names;
       spec = second.spec ∙ first.spec;
@@ -48,14 +48,14 @@ behind {p} {q} {old} {mid} {new} first second =
 pub told_here : {p q : Parts → Printed} {old new : Printer} → p (parts_of old.spec.now) (names_in old) ≡ q (parts_of old.spec.now) (names_in old) →
     Prints p old new → Prints q old new
 told_here {p} {q} {old} {new} same prints = record {
-  text = prints.text ∙ ap (λ pieces. string_bytes old.text ++ text_of pieces) same;
+  text = prints.text ∙ ap (λ pieces. string_bytes old.text ++ pieces_text pieces) same;
   names = prints.names;
   spec = prints.spec;
 }
 
 -- lists with something between
 
-joined-last : (b : List Piece) (xs : List (List Piece)) (x : List Piece) → joined b (xs ++ x ∷ []) ≡ joined b xs ++ between (length xs) b ++ x
+joined-last : (b : List Piece) (xs : List (List Piece)) (x : List Piece) → joined_pieces b (xs ++ x ∷ []) ≡ joined_pieces b xs ++ between_pieces (length xs) b ++ x
 joined-last b [] x = append-nil x
 joined-last b (y ∷ ys) x =
     rw (eqb-suc-zero (length ys)) (ap (λ t. y ++ t) (flat_map-append (λ z. b ++ z) ys (x ∷ []) ∙ ap (λ t. flat_map (λ z. b ++ z) ys ++ t) (append-nil (b ++ x)))
@@ -70,21 +70,21 @@ length_front : {X Y : Type 0} (f : X → Y) (xs : List X) (k : ℕ) → k < leng
 length_front f xs k below = length-map (take k xs) f ∙ length-take-le k xs (omega arith)
 
 joined_next : {X : Type 0} (b : List Piece) (f : X → List Piece) (xs : List X) (k : ℕ) (x : X) → k < length xs → x ≡ get_or xs k x →
-    joined b (map f (take k xs)) ++ between k b ++ f x ≡ joined b (map f (take (k + 1) xs))
+    joined_pieces b (map f (take k xs)) ++ between_pieces k b ++ f x ≡ joined_pieces b (map f (take (k + 1) xs))
 joined_next b f xs k x below is =
-    ap (λ n. joined b (map f (take k xs)) ++ between n b ++ f x) (sym (length_front f xs k below))
-    ∙ sym (joined-last b (map f (take k xs)) (f x)) ∙ ap (joined b) (sym (map_next f xs k x below is))
+    ap (λ n. joined_pieces b (map f (take k xs)) ++ between_pieces n b ++ f x) (sym (length_front f xs k below))
+    ∙ sym (joined-last b (map f (take k xs)) (f x)) ∙ ap (joined_pieces b) (sym (map_next f xs k x below is))
 
 pub joined_more : {X : Type 0} (b : List Piece) (f : Parts → List (List ℕ) → X → List Piece) (xs : List X) (k : ℕ) (x : X) → k < length xs → x ≡ get_or xs k x →
-    {s t u v : Printer} → Prints (λ parts names. joined b (map (f parts names) (take k xs))) s t → Prints (always (between k b)) t u →
-    Prints (λ parts names. f parts names x) u v → Prints (λ parts names. joined b (map (f parts names) (take (k + 1) xs))) s v
+    {s t u v : Printer} → Prints (λ parts names. joined_pieces b (map (f parts names) (take k xs))) s t → Prints (always (between_pieces k b)) t u →
+    Prints (λ parts names. f parts names x) u v → Prints (λ parts names. joined_pieces b (map (f parts names) (take (k + 1) xs))) s v
 joined_more b f xs k x below is so_far first second =
     told (λ parts names. joined_next b (f parts names) xs k x below is) (behind (behind so_far first) second)
 
 pub joined_whole : {X : Type 0} (b : List Piece) (f : Parts → List (List ℕ) → X → List Piece) (xs : List X) (k : ℕ) → length xs ≤ k →
-    {s t : Printer} → Prints (λ parts names. joined b (map (f parts names) (take k xs))) s t →
-    Prints (λ parts names. joined b (map (f parts names) xs)) s t
-joined_whole b f xs k past prints = told (λ parts names. ap (λ ys. joined b (map (f parts names) ys)) (take_all k xs past)) prints
+    {s t : Printer} → Prints (λ parts names. joined_pieces b (map (f parts names) (take k xs))) s t →
+    Prints (λ parts names. joined_pieces b (map (f parts names) xs)) s t
+joined_whole b f xs k past prints = told (λ parts names. ap (λ ys. joined_pieces b (map (f parts names) ys)) (take_all k xs past)) prints
 
 -- sums
 

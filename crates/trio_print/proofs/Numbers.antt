@@ -7,13 +7,13 @@ use Rattle.std.proofs.lemmas.Fmt.{decimal_by_steps}
 use Rattle.std.proofs.lemmas.List.Folds.{list_all-append}
 use Rattle.std.proofs.lemmas.List.Sums.{fold-append}
 use Rattle.trio_base.specs.declared.limits.TheConstants.{GREATEST_NUMBER}
-use Rattle.trio_text.specs.Spelling.{is_digit, is_number}
+use Rattle.trio_text.specs.Spelling.{is_digit, is_numeral}
 use Rattle.trio_text.specs.Lexemes.{number_of}
 use Rattle.trio_text.proofs.Runs.{and_left, and_right, and_both}
 
 -- these bytes are a number of this value
 record Writes (n : ℕ) (ds : List ℕ) : Type 0 where
-  spelled : is_number ds ≡ true
+  spelled : is_numeral ds ≡ true
   value : number_of ds ≡ n
 
 digit_is : (n : ℕ) → n < 10 → is_digit (48 + n) ≡ true
@@ -22,7 +22,7 @@ digit_is n small = grind (arith, nat_tests)
 one_digit : (n : ℕ) → n < 10 → Writes n ((48 + n) ∷ [])
 one_digit n small = record { spelled = and_both _ _ (digit_is n small) refl; value = omega arith }
 
-number_push : (ds : List ℕ) (d : ℕ) → is_number ds ≡ true → is_digit d ≡ true → is_number (ds ++ d ∷ []) ≡ true
+number_push : (ds : List ℕ) (d : ℕ) → is_numeral ds ≡ true → is_digit d ≡ true → is_numeral (ds ++ d ∷ []) ≡ true
 number_push [] d spelled digit = absurd (false≢true spelled)
 number_push (b ∷ ds) d spelled digit =
     and_both _ _ (and_left (is_digit b) _ spelled)
@@ -38,7 +38,7 @@ digit_more n ds big front = record {
 decimal_writes : (n : ℕ) → n ≤ GREATEST_NUMBER → Writes n (decimal n)
 decimal_writes n small = decimal_by_steps Writes one_digit digit_more n (omega arith)
 
-pub decimal_number : (n : ℕ) → n ≤ GREATEST_NUMBER → is_number (decimal n) ≡ true
+pub decimal_number : (n : ℕ) → n ≤ GREATEST_NUMBER → is_numeral (decimal n) ≡ true
 decimal_number n small = (decimal_writes n small).spelled
 
 -- what is read of it

@@ -20,7 +20,7 @@ use Rattle.trio_text.proofs.Runs.{and_left, and_right, not_true, Ends}
 use Rattle.trio_text.proofs.Spellings.{begins_with, is_sign_byte, symbol_listed, word_letter, word_is_word, name_word, number_digit, sign_symbol}
 use Rattle.trio_text.proofs.Longest.{drop_seam, longest_word, longest_number}
 use Rattle.trio_text.proofs.Spans.{part_between}
-use Rattle.trio_print.specs.Pieces.{Piece, token, blank, line_end, lexeme_text, text_of, lexemes_in}
+use Rattle.trio_print.specs.Pieces.{Piece, token, blank, line_end, lexeme_text, pieces_text, lexemes_in}
 use Rattle.trio_print.proofs.Numbers.{decimal_number, decimal_value}
 use Rattle.trio_print.proofs.Spaced.{can_grow, grows_by, stand_apart, is_lexeme, can_meet, first_of, are_spaced}
 
@@ -160,11 +160,11 @@ line_end_behind (lexeme.Number n) rest = refl
 line_end_behind (lexeme.Word r) rest = refl
 line_end_behind (lexeme.Sign s) rest = and_no (can_grow s) false refl
 
-pieces_behind : (x : Lexeme) (ps : List Piece) → can_meet (Some (token x)) (first_of ps) ≡ true → are_spaced ps ≡ true → Ends (goes_on_by x) (text_of ps)
+pieces_behind : (x : Lexeme) (ps : List Piece) → can_meet (Some (token x)) (first_of ps) ≡ true → are_spaced ps ≡ true → Ends (goes_on_by x) (pieces_text ps)
 pieces_behind x [] met spaced = tt
-pieces_behind x (token y ∷ ps) met spaced = token_behind x y (text_of ps) met (and_left (is_lexeme y) _ spaced)
-pieces_behind x (blank ∷ ps) met spaced = blank_behind x (text_of ps)
-pieces_behind x (line_end ∷ ps) met spaced = line_end_behind x (text_of ps)
+pieces_behind x (token y ∷ ps) met spaced = token_behind x y (pieces_text ps) met (and_left (is_lexeme y) _ spaced)
+pieces_behind x (blank ∷ ps) met spaced = blank_behind x (pieces_text ps)
+pieces_behind x (line_end ∷ ps) met spaced = line_end_behind x (pieces_text ps)
 
 -- ---- the lexemes among pieces
 
@@ -180,38 +180,38 @@ lexemes-tokens (x ∷ xs) = ap (λ ts. x ∷ ts) (lexemes-tokens xs)
 
 -- ---- the whole text
 
-pub spaced_lexes : (place line : ℕ) (ps : List Piece) → are_spaced ps ≡ true → Lexes place line (text_of ps) (tokens_of place line ps) []
+pub spaced_lexes : (place line : ℕ) (ps : List Piece) → are_spaced ps ≡ true → Lexes place line (pieces_text ps) (tokens_of place line ps) []
 spaced_lexes place line [] spaced = nothing
 spaced_lexes place line (token x ∷ ps) spaced =
     let is : is_lexeme x ≡ true = and_left (is_lexeme x) _ spaced in
     let behind = and_right (is_lexeme x) _ spaced in
     let met : can_meet (Some (token x)) (first_of ps) ≡ true = and_left (can_meet (Some (token x)) (first_of ps)) _ behind in
     let more : are_spaced ps ≡ true = and_right (can_meet (Some (token x)) (first_of ps)) _ behind in
-    lexes_token {word = lexeme_text x} {text = text_of ps} {kind = lexeme_kind x} (spells x is)
-    (longest x (text_of ps) is (pieces_behind x ps met more)) (spaced_lexes (place + length (lexeme_text x)) line ps more)
+    lexes_token {word = lexeme_text x} {text = pieces_text ps} {kind = lexeme_kind x} (spells x is)
+    (longest x (pieces_text ps) is (pieces_behind x ps met more)) (spaced_lexes (place + length (lexeme_text x)) line ps more)
 spaced_lexes place line (blank ∷ ps) spaced = lexes_blank {b = 32} refl (spaced_lexes (place + 1) line ps spaced)
 spaced_lexes place line (line_end ∷ ps) spaced = lexes_blank {b = 10} refl (spaced_lexes (place + 1) (line + 1) ps spaced)
 
-pub spaced_tokens : (ps : List Piece) → are_spaced ps ≡ true → IsTokens (text_of ps) (tokens_of 0 1 ps)
+pub spaced_tokens : (ps : List Piece) → are_spaced ps ≡ true → IsTokens (pieces_text ps) (tokens_of 0 1 ps)
 spaced_tokens ps spaced = spaced_lexes 0 1 ps spaced
 
-lexemes_from : (text front : List ℕ) (place line : ℕ) (ps : List Piece) → text ≡ front ++ text_of ps → length front ≡ place → are_spaced ps ≡ true →
+lexemes_from : (text front : List ℕ) (place line : ℕ) (ps : List Piece) → text ≡ front ++ pieces_text ps → length front ≡ place → are_spaced ps ≡ true →
     lexemes_of text (tokens_of place line ps) ≡ lexemes_in ps
 lexemes_from text front place line [] whole long spaced = refl
 lexemes_from text front place line (token x ∷ ps) whole long spaced =
     let is : is_lexeme x ≡ true = and_left (is_lexeme x) _ spaced in
     let more : are_spaced ps ≡ true = and_right (can_meet (Some (token x)) (first_of ps)) _ (and_right (is_lexeme x) _ spaced) in
     let here : lexeme_of text (record { kind = lexeme_kind x; start = place; end = place + length (lexeme_text x); line = line }) ≡ x =
-    ap (lexeme_of_kind (lexeme_kind x)) (part_between text front (lexeme_text x) (text_of ps) place whole long) ∙ lexeme_back x is in
-    let rest = lexemes_from text (front ++ lexeme_text x) (place + length (lexeme_text x)) line ps (whole ∙ sym (append_assoc front (lexeme_text x) (text_of ps)))
+    ap (lexeme_of_kind (lexeme_kind x)) (part_between text front (lexeme_text x) (pieces_text ps) place whole long) ∙ lexeme_back x is in
+    let rest = lexemes_from text (front ++ lexeme_text x) (place + length (lexeme_text x)) line ps (whole ∙ sym (append_assoc front (lexeme_text x) (pieces_text ps)))
     (length-append front (lexeme_text x) ∙ ap (λ n. n + length (lexeme_text x)) long) more in
     (λ i. here i ∷ rest i)
 lexemes_from text front place line (blank ∷ ps) whole long spaced =
-    lexemes_from text (front ++ 32 ∷ []) (place + 1) line ps (whole ∙ sym (append_assoc front (32 ∷ []) (text_of ps)))
+    lexemes_from text (front ++ 32 ∷ []) (place + 1) line ps (whole ∙ sym (append_assoc front (32 ∷ []) (pieces_text ps)))
     (length-append front (32 ∷ []) ∙ ap (λ n. n + 1) long) spaced
 lexemes_from text front place line (line_end ∷ ps) whole long spaced =
-    lexemes_from text (front ++ 10 ∷ []) (place + 1) (line + 1) ps (whole ∙ sym (append_assoc front (10 ∷ []) (text_of ps)))
+    lexemes_from text (front ++ 10 ∷ []) (place + 1) (line + 1) ps (whole ∙ sym (append_assoc front (10 ∷ []) (pieces_text ps)))
     (length-append front (10 ∷ []) ∙ ap (λ n. n + 1) long) spaced
 
-pub spaced_lexemes : (ps : List Piece) → are_spaced ps ≡ true → lexemes_of (text_of ps) (tokens_of 0 1 ps) ≡ lexemes_in ps
-spaced_lexemes ps spaced = lexemes_from (text_of ps) [] 0 1 ps refl refl spaced
+pub spaced_lexemes : (ps : List Piece) → are_spaced ps ≡ true → lexemes_of (pieces_text ps) (tokens_of 0 1 ps) ≡ lexemes_in ps
+spaced_lexemes ps spaced = lexemes_from (pieces_text ps) [] 0 1 ps refl refl spaced

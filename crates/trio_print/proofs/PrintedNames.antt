@@ -25,7 +25,7 @@ use Rattle.trio_types.proofs.Lists.{each_of, all_left, all_right, all_flat}
 use Rattle.trio_types.proofs.Domains.{first_of as first_value, values_are, length-integers}
 use Rattle.trio_types.proofs.Specs.{Formed}
 use Rattle.trio_print.specs.Pieces.{token}
-use Rattle.trio_print.specs.Canonical.{ref, constant, word_name, domain_name}
+use Rattle.trio_print.specs.Canonical.{ref_pieces, constant, word_name, domain_name}
 use Rattle.trio_print.proofs.Spaced.{is_lexeme}
 use Rattle.trio_print.proofs.SpacedTexts.{starts_apart}
 
@@ -87,7 +87,7 @@ other_domain p f d domain other at = among p.domains d f.bool_first other at
 -- ---- what is printed of a domain and of a constant
 
 pub ref_token : (p : Parts) → Formed p → (d : ℕ) (domain : Domain) → slice_get p.domains d ≡ Some domain →
-    (x : Lexeme) × (ref p d ≡ token x ∷ []) × (is_lexeme x ≡ true)
+    (x : Lexeme) × (ref_pieces p d ≡ token x ∷ []) × (is_lexeme x ≡ true)
 ref_token p f d domain at =
     ⊎_elim (λ zero_. (lexeme.Word reserved.Bool, cond-true (nat_eq d 0) _ _ zero_, refl))
     (λ other.

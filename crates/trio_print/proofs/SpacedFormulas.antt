@@ -23,7 +23,7 @@ use Rattle.trio_types.specs.declared.formula.Formula.TheOpen as open_formula
 use Rattle.trio_types.specs.declared.formula.Formula.TheFolds.{map-Formula, ind-Formula}
 use Rattle.trio_types.specs.declared.formula.Formula.TheViews.{roll-Formula}
 use Rattle.trio_types.specs.Parts.{Parts, world_of_parts}
-use Rattle.trio_types.specs.Kinds.{of_domain, in_role, alone, compared, distance, is_right, kind, kind_in, term_uses, uses}
+use Rattle.trio_types.specs.Kinds.{of_domain, required, alone, compared, distance, is_right, kind_of_term, kind_in, term_uses, uses}
 use Rattle.trio_types.specs.Shape.{numbers_in, numbers_of}
 use Rattle.trio_types.specs.Names.{variables_of}
 use Rattle.trio_types.proofs.Lists.{all_left, all_right}
@@ -32,7 +32,7 @@ use Rattle.trio_types.proofs.KindsAt.{uses-Lone, uses-Compare, uses-Not, uses-An
 use Rattle.trio_types.proofs.ShapeAt.{numbers_of-Lone, numbers_of-Compare, numbers_of-Not, numbers_of-And, numbers_of-Or, numbers_of-Implies, numbers_of-Iff, numbers_of-All, numbers_of-Ex, numbers_of-One, numbers_of-Far, numbers_of-Pair}
 use Rattle.trio_types.proofs.NamesAt.{variables_of-Not, variables_of-And, variables_of-Or, variables_of-Implies, variables_of-Iff, variables_of-All, variables_of-Ex, variables_of-One, variables_of-Far, variables_of-Pair}
 use Rattle.trio_print.specs.Pieces.{Piece, token, blank}
-use Rattle.trio_print.specs.Canonical.{FormulaText, ref, spaced, comma, in_round, term_plain, many_text, quantified_text, formula_text, text_of_formula}
+use Rattle.trio_print.specs.Canonical.{FormulaText, ref_pieces, spaced, comma, in_round, term_plain, many_text, quantified_text, formula_text, text_of_formula}
 use Rattle.trio_print.proofs.Spaced.{are_spaced, first_of, spaced_blank}
 use Rattle.trio_print.proofs.SpacedTexts.{starts_apart, after_sign, one_token, round_spaced, blanks_between, comma_between, symbols_spaced}
 use Rattle.trio_print.proofs.PrintedNames.{ref_token}
@@ -116,7 +116,7 @@ spaced_lone : (p : Parts) → Formed p → (x : Term) → SpacedAt p (formula.Lo
 unfolding SpacedAt
 spaced_lone p f x vs names scope stands =
     let w = world_of_parts p in
-    let right = and_parts (is_right (in_role alone (kind w vs x))) (list_all is_right (term_uses w vs false x)) (sym (ap (list_all is_right) (uses-Lone w x vs)) ∙ stands.right) in
+    let right = and_parts (is_right (required alone (kind_of_term w vs x))) (list_all is_right (term_uses w vs false x)) (sym (ap (list_all is_right) (uses-Lone w x vs)) ∙ stands.right) in
     let text = term_spaced p f x vs names false scope right.1 (sym (ap (list_all is_small) (numbers_of-Lone x)) ∙ stands.small) in
     at_variant p (formula.Lone x) (formula_text p (open_formula.Lone x)) names (text_of_formula-Lone p x)
     (record { plain = text.plain; grouped = text.plain; group_apart = text.alone_apart right.0 })
@@ -125,7 +125,7 @@ spaced_comparison : (p : Parts) → Formed p → (r : Rel) (x y : Term) → Spac
 unfolding SpacedAt
 spaced_comparison p f r x y vs names scope stands =
     let w = world_of_parts p in
-    let right = (and_parts (is_right (in_role (compared r (kind w vs x)) (kind w vs y))) (list_all is_right (term_uses w vs false x ++ term_uses w vs false y))
+    let right = (and_parts (is_right (required (compared r (kind_of_term w vs x)) (kind_of_term w vs y))) (list_all is_right (term_uses w vs false x ++ term_uses w vs false y))
     (sym (ap (list_all is_right) (uses-Compare w r x y vs)) ∙ stands.right)).1 in
     let small = sym (ap (list_all is_small) (numbers_of-Compare r x y)) ∙ stands.small in
     let first = term_spaced p f x vs names false scope (all_left is_right (term_uses w vs false x) (term_uses w vs false y) right) (all_left is_small (numbers_in x) (numbers_in y) small) in
@@ -213,9 +213,9 @@ quantified p f q whole name d x each vs names scope stands u n v =
     let body = each (vs ++ d ∷ []) (names ++ name ∷ []) (more_names vs names d name scope named.0)
     (record { right = right.1; small = sym (ap (list_all is_small) n) ∙ stands.small; named = named.1 }) in
     let round : List Piece = in_round ((text_of_formula p x).plain (names ++ name ∷ [])) in
-    let behind : are_spaced (ref p d ++ blank ∷ round) ≡ true =
-    spaced_blank (ref p d) round (ap are_spaced one.1 ∙ one_token one.0 one.2) (round_spaced ((text_of_formula p x).plain (names ++ name ∷ [])) body.plain) in
-    and_from (is_name name) (are_spaced (ref p d ++ blank ∷ round)) named.0 behind
+    let behind : are_spaced (ref_pieces p d ++ blank ∷ round) ≡ true =
+    spaced_blank (ref_pieces p d) round (ap are_spaced one.1 ∙ one_token one.0 one.2) (round_spaced ((text_of_formula p x).plain (names ++ name ∷ [])) body.plain) in
+    and_from (is_name name) (are_spaced (ref_pieces p d ++ blank ∷ round)) named.0 behind
 
 spaced_all : (p : Parts) → Formed p → (name : List ℕ) (d : ℕ) (x : Formula) → SpacedAt p x → SpacedAt p (formula.All name d x)
 unfolding SpacedAt
@@ -243,7 +243,7 @@ spaced_far : (p : Parts) → Formed p → (o : FarOp) (x : Formula) (t : Term) �
 unfolding SpacedAt
 spaced_far p f o x t each vs names scope stands =
     let w = world_of_parts p in
-    let right = (and_parts (is_right (in_role distance (kind w vs t))) (list_all is_right (uses w x vs ++ term_uses w vs true t)) (sym (ap (list_all is_right) (uses-Far w o x t vs)) ∙ stands.right)).1 in
+    let right = (and_parts (is_right (required distance (kind_of_term w vs t))) (list_all is_right (uses w x vs ++ term_uses w vs true t)) (sym (ap (list_all is_right) (uses-Far w o x t vs)) ∙ stands.right)).1 in
     let small = sym (ap (list_all is_small) (numbers_of-Far o x t)) ∙ stands.small in
     let part = each vs names scope (record {
       right = all_left is_right (uses w x vs) (term_uses w vs true t) right;

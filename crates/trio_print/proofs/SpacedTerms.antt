@@ -21,7 +21,7 @@ use Rattle.trio_types.specs.declared.formula.Term.TheViews.{roll-Term}
 use Rattle.trio_types.specs.declared.formula.Term.TheBlock.{the_family, member-Term, member-SignedTerm}
 use Rattle.trio_types.specs.World.{World}
 use Rattle.trio_types.specs.Parts.{Parts, world_of_parts}
-use Rattle.trio_types.specs.Kinds.{Kind, number, Gathered, gathered, gather_term, term_uses, kind, has_kind, kind_of_constant, in_role, of_item, alone, part, is_right, is_arity, args_of, argument_uses}
+use Rattle.trio_types.specs.Kinds.{Kind, number, Gathered, gathered, gather_term, term_uses, kind_of_term, has_kind, kind_of_constant, required, of_item, alone, part, is_right, is_arity, args_of, argument_uses}
 use Rattle.trio_types.specs.Shape.{numbers_in}
 use Rattle.trio_types.proofs.Lists.{each_of, all_left, all_right}
 use Rattle.trio_types.proofs.KindsAt.{gathered-Number, gathered-Value, gathered-Var, gathered-Read, gathered-Sum, gathered-Times}
@@ -50,7 +50,7 @@ pub record SpacedTerm (t : TermText) (k : Kind) (names : List (List ℕ)) : Type
   pub as_part : are_spaced (t.as_part names) ≡ true
   pub as_factor : are_spaced (t.as_factor names) ≡ true
   pub part_apart : starts_apart (first_of (t.as_part names)) ≡ true
-  pub alone_apart : is_right (in_role alone k) ≡ true → starts_apart (first_of (t.plain names)) ≡ true
+  pub alone_apart : is_right (required alone k) ≡ true → starts_apart (first_of (t.plain names)) ≡ true
 
 -- a text of one token
 leaf : (x : Lexeme) (k : Kind) (names : List (List ℕ)) → is_lexeme x ≡ true → starts_apart (Some (token x)) ≡ true →
@@ -63,14 +63,14 @@ leaf x k names is apart =
 SpacedAt : Parts → Term → Type 0
 SpacedAt p x = (vs : List ℕ) (names : List (List ℕ)) (is_inside : Bool) → Scope vs names →
     list_all is_right (term_uses (world_of_parts p) vs is_inside x) ≡ true → list_all is_small (numbers_in x) ≡ true →
-    SpacedTerm (text_of_term p x) (kind (world_of_parts p) vs x) names
+    SpacedTerm (text_of_term p x) (kind_of_term (world_of_parts p) vs x) names
 
 PartSpacedAt : Parts → SignedTerm → Type 0
 PartSpacedAt p s = SpacedAt p (out-SignedTerm s).term
 
 -- by what a term's text and its uses are
 at_variant : (p : Parts) (x : Term) (t : TermText) (vs : List ℕ) (names : List (List ℕ)) (g : Gathered) → text_of_term p x ≡ t → gathered (world_of_parts p) vs x ≡ g →
-    SpacedTerm t g.kind names → SpacedTerm (text_of_term p x) (kind (world_of_parts p) vs x) names
+    SpacedTerm t g.kind names → SpacedTerm (text_of_term p x) (kind_of_term (world_of_parts p) vs x) names
 at_variant p x t vs names g text uses is =
     subst (λ (h : Gathered). SpacedTerm (text_of_term p x) h.kind names) (sym uses) (subst (λ (u : TermText). SpacedTerm u g.kind names) (sym text) is)
 
@@ -193,7 +193,7 @@ spaced_sum p xs vs names is_inside scope right small =
     let gs : List Gathered = map (λ s. gathered w vs (out-SignedTerm s).term) parts in
     let texts : List PartText = map (text_of_part p) parts in
     let uses = ap (λ (g : Gathered). list_all is_right (g.uses is_inside)) (gathered-Sum w vs parts) in
-    let inner = all_right is_right (map (λ (g : Gathered). in_role part g.kind) gs) (flat_map (λ (g : Gathered). g.uses is_inside) gs) (sym uses ∙ right) in
+    let inner = all_right is_right (map (λ (g : Gathered). required part g.kind) gs) (flat_map (λ (g : Gathered). g.uses is_inside) gs) (sym uses ∙ right) in
     let all = parts_stand p vs names is_inside scope xs inner (sym (ap (list_all is_small) (numbers_in-Sum parts)) ∙ small) in
     let text = sum_spaced names texts all in
     let bracketed = square_spaced (sum_text texts names) text in
@@ -205,7 +205,7 @@ unfolding SpacedAt
 spaced_product p n x each vs names is_inside scope right small =
     let w = world_of_parts p in
     let uses = ap (λ (g : Gathered). list_all is_right (g.uses is_inside)) (gathered-Times w vs n x) in
-    let inner = (and_parts (is_right (in_role part (kind w vs x))) (list_all is_right (term_uses w vs is_inside x)) (sym uses ∙ right)).1 in
+    let inner = (and_parts (is_right (required part (kind_of_term w vs x))) (list_all is_right (term_uses w vs is_inside x)) (sym uses ∙ right)).1 in
     let numbers = and_parts (is_small n) (list_all is_small (numbers_in x)) (sym (ap (list_all is_small) (numbers_in-Times n x)) ∙ small) in
     let factor = each vs names is_inside scope inner numbers.1 in
     let text = blanks_between symbol.Times (number_ n) ((text_of_term p x).as_factor names) (one_token (lexeme.Number n) numbers.0) factor.as_factor in
@@ -234,6 +234,6 @@ all_terms p f =
 
 pub term_spaced : (p : Parts) → Formed p → (x : Term) (vs : List ℕ) (names : List (List ℕ)) (is_inside : Bool) → Scope vs names →
     list_all is_right (term_uses (world_of_parts p) vs is_inside x) ≡ true → list_all is_small (numbers_in x) ≡ true →
-    SpacedTerm (text_of_term p x) (kind (world_of_parts p) vs x) names
+    SpacedTerm (text_of_term p x) (kind_of_term (world_of_parts p) vs x) names
 unfolding SpacedAt
 term_spaced p f x = all_terms p f x

@@ -9,7 +9,7 @@ use Rattle.trio_text.specs.declared.token.Symbol.{Symbol}
 use Rattle.trio_text.specs.declared.token.Symbol.TheVariants as symbol
 use Rattle.trio_syntax.specs.Words.{adding_sign}
 use Rattle.trio_print.specs.Pieces.{Piece, token, blank, line_end}
-use Rattle.trio_print.specs.Canonical.{PartText, sign, spaced, comma, joined, listed, in_round, in_square, first_part, later_part, sum_text, ended}
+use Rattle.trio_print.specs.Canonical.{PartText, sign, spaced, comma, joined_pieces, listed_pieces, in_round, in_square, first_part, later_part, sum_text, ended}
 use Rattle.trio_print.proofs.Spaced.{can_join, can_meet, is_lexeme, are_spaced, first_of, meets_sign, spaced_behind_sign, spaced_before_sign, spaced_blank}
 
 -- what may stand directly behind any symbol
@@ -74,23 +74,23 @@ row_spaced b link x (y ∷ ys) first all =
     ap are_spaced (regroup x b y (flat_map (λ z. b ++ z) ys)) ∙ row_spaced b link (x ++ b ++ y) ys (link x y first both.0) both.1
 
 joined_spaced : (b : List Piece) → ((x y : List Piece) → are_spaced x ≡ true → are_spaced y ≡ true → are_spaced (x ++ b ++ y) ≡ true) →
-    (xs : List (List Piece)) → list_all are_spaced xs ≡ true → are_spaced (joined b xs) ≡ true
+    (xs : List (List Piece)) → list_all are_spaced xs ≡ true → are_spaced (joined_pieces b xs) ≡ true
 joined_spaced b link [] all = refl
 joined_spaced b link (x ∷ xs) all =
     let both = and_parts (are_spaced x) (list_all are_spaced xs) all in
     row_spaced b link x xs both.0 both.1
 
-pub commas_spaced : (xs : List (List Piece)) → list_all are_spaced xs ≡ true → are_spaced (joined comma xs) ≡ true
+pub commas_spaced : (xs : List (List Piece)) → list_all are_spaced xs ≡ true → are_spaced (joined_pieces comma xs) ≡ true
 commas_spaced = joined_spaced comma comma_between
 
-pub symbols_spaced : (s : Symbol) (xs : List (List Piece)) → list_all are_spaced xs ≡ true → are_spaced (joined (spaced s) xs) ≡ true
+pub symbols_spaced : (s : Symbol) (xs : List (List Piece)) → list_all are_spaced xs ≡ true → are_spaced (joined_pieces (spaced s) xs) ≡ true
 symbols_spaced s = joined_spaced (spaced s) (blanks_between s)
 
 -- a name, and what is listed behind it
 pub named_listed : (name : List ℕ) (xs : List (List Piece)) → is_name name ≡ true → list_all are_spaced xs ≡ true →
-    are_spaced (token (lexeme.Name name) ∷ listed xs) ≡ true
+    are_spaced (token (lexeme.Name name) ∷ listed_pieces xs) ≡ true
 named_listed name [] named all = one_token (lexeme.Name name) named
-named_listed name (x ∷ xs) named all = and_from (is_name name) _ named (round_spaced (joined comma (x ∷ xs)) (commas_spaced (x ∷ xs) all))
+named_listed name (x ∷ xs) named all = and_from (is_name name) _ named (round_spaced (joined_pieces comma (x ∷ xs)) (commas_spaced (x ∷ xs) all))
 
 -- ---- sums
 

@@ -20,7 +20,7 @@ use Rattle.trio_types.specs.declared.formula.Formula.TheFolds.{fold-roll-Formula
 use Rattle.trio_types.specs.declared.formula.Formula.TheViews.{roll-Formula}
 use Rattle.trio_types.specs.Parts.{Parts}
 use Rattle.trio_types.proofs.Lists.{map-map, map_same}
-use Rattle.trio_print.specs.Canonical.{TermText, PartText, FormulaText, name_, listed, item_name, term_text, part_text, text_of_term, term_plain, spaced, joined, formula_text, text_of_formula}
+use Rattle.trio_print.specs.Canonical.{TermText, PartText, FormulaText, name_, listed_pieces, item_name, term_text, part_text, text_of_term, term_plain, spaced, joined_pieces, formula_text, text_of_formula}
 use Rattle.trio_print.specs.Printing.{text_of_part}
 
 abbrev text_of_signed : Parts → SignedTerm → PartText
@@ -60,10 +60,10 @@ text_of_term-Times parts n x = text_of_term_at parts (open_term.Times n x) (term
 -- the arguments of a read, by themselves
 pub plain-Read : (parts : Parts) (number : ℕ) (args : List Term) (names : List (List ℕ)) →
     term_plain parts (term.Read number args) names
-    ≡ name_ (item_name (slice_get parts.items number)) ++ listed (map (λ x. term_plain parts x names) args)
+    ≡ name_ (item_name (slice_get parts.items number)) ++ listed_pieces (map (λ x. term_plain parts x names) args)
 plain-Read parts number args names =
     ap (λ t. t.plain names) (text_of_term-Read parts number args)
-    ∙ ap (λ ts. name_ (item_name (slice_get parts.items number)) ++ listed ts) (map-map (λ t. t.plain names) (text_of_term parts) args)
+    ∙ ap (λ ts. name_ (item_name (slice_get parts.items number)) ++ listed_pieces ts) (map-map (λ t. t.plain names) (text_of_term parts) args)
 
 text_of_formula_at : (parts : Parts) {f : Formula} (x : Formula-F Formula) → roll-Formula x ≡ f →
     text_of_formula parts f ≡ formula_text parts (map-Formula Formula FormulaText (text_of_formula parts) x)
@@ -119,11 +119,11 @@ text_of_formula-Pair parts o f g = text_of_formula_at parts (open_formula.Pair o
 
 -- the parts of a conjunction and of a disjunction, as groups
 pub plain-And : (parts : Parts) (fs : List Formula) (names : List (List ℕ)) →
-    (text_of_formula parts (formula.And fs)).plain names ≡ joined (spaced symbol.And) (map (λ f. (text_of_formula parts f).grouped names) fs)
+    (text_of_formula parts (formula.And fs)).plain names ≡ joined_pieces (spaced symbol.And) (map (λ f. (text_of_formula parts f).grouped names) fs)
 plain-And parts fs names =
-    ap (λ t. t.plain names) (text_of_formula-And parts fs) ∙ ap (joined (spaced symbol.And)) (map-map (λ t. t.grouped names) (text_of_formula parts) fs)
+    ap (λ t. t.plain names) (text_of_formula-And parts fs) ∙ ap (joined_pieces (spaced symbol.And)) (map-map (λ t. t.grouped names) (text_of_formula parts) fs)
 
 pub plain-Or : (parts : Parts) (fs : List Formula) (names : List (List ℕ)) →
-    (text_of_formula parts (formula.Or fs)).plain names ≡ joined (spaced symbol.Or) (map (λ f. (text_of_formula parts f).grouped names) fs)
+    (text_of_formula parts (formula.Or fs)).plain names ≡ joined_pieces (spaced symbol.Or) (map (λ f. (text_of_formula parts f).grouped names) fs)
 plain-Or parts fs names =
-    ap (λ t. t.plain names) (text_of_formula-Or parts fs) ∙ ap (joined (spaced symbol.Or)) (map-map (λ t. t.grouped names) (text_of_formula parts) fs)
+    ap (λ t. t.plain names) (text_of_formula-Or parts fs) ∙ ap (joined_pieces (spaced symbol.Or)) (map-map (λ t. t.grouped names) (text_of_formula parts) fs)

@@ -48,18 +48,18 @@ abbrev pub in_square : List Piece → List Piece
 in_square x = sign symbol.LeftSquare ++ x ++ sign symbol.RightSquare
 
 -- the texts in a row with this between them
-abbrev pub joined : List Piece → List (List Piece) → List Piece
-joined between [] = []
-joined between (x ∷ xs) = x ++ flat_map (λ y. between ++ y) xs
+abbrev pub joined_pieces : List Piece → List (List Piece) → List Piece
+joined_pieces between [] = []
+joined_pieces between (x ∷ xs) = x ++ flat_map (λ y. between ++ y) xs
 
 -- `, `
 abbrev pub comma : List Piece
 comma = sign symbol.Comma ++ blank ∷ []
 
 -- nothing, or the texts in `(` and `)` with `, ` between them
-abbrev pub listed : List (List Piece) → List Piece
-listed [] = []
-listed (x ∷ xs) = in_round (joined comma (x ∷ xs))
+abbrev pub listed_pieces : List (List Piece) → List Piece
+listed_pieces [] = []
+listed_pieces (x ∷ xs) = in_round (joined_pieces comma (x ∷ xs))
 
 abbrev pub integer : ℤ → List Piece
 integer (pos n) = number_ n
@@ -70,8 +70,8 @@ domain_name None = []
 domain_name (Some domain) = domain.name
 
 -- `bool`, or the name of the domain of this number
-abbrev pub ref : Parts → ℕ → List Piece
-ref parts d = if d == 0 then word_ word.Bool else name_ (domain_name (slice_get parts.domains d))
+abbrev pub ref_pieces : Parts → ℕ → List Piece
+ref_pieces parts d = if d == 0 then word_ word.Bool else name_ (domain_name (slice_get parts.domains d))
 
 abbrev pub word_name : Option Domain → ℕ → List ℕ
 word_name None v = []
@@ -115,7 +115,7 @@ sum_text (p ∷ ps) names = first_part names p ++ flat_map (later_part names) ps
 
 abbrev pub read_text : Parts → ℕ → List TermText → Printed
 read_text parts number args names =
-    name_ (item_name (slice_get parts.items number)) ++ listed (map (λ a. a.plain names) args)
+    name_ (item_name (slice_get parts.items number)) ++ listed_pieces (map (λ a. a.plain names) args)
 
 abbrev pub product_text : ℕ → TermText → Printed
 product_text n x names = number_ n ++ spaced symbol.Times ++ x.as_factor names
@@ -151,11 +151,11 @@ abbrev pub in_group : Printed → FormulaText
 in_group p = record { plain = p; grouped = λ names. in_round (p names) }
 
 abbrev pub many_text : Symbol → List FormulaText → Printed
-many_text s fs names = joined (spaced s) (map (λ f. f.grouped names) fs)
+many_text s fs names = joined_pieces (spaced s) (map (λ f. f.grouped names) fs)
 
 abbrev pub quantified_text : Parts → Reserved → List ℕ → ℕ → FormulaText → Printed
 quantified_text parts q name d f names =
-    word_ q ++ blank ∷ name_ name ++ spaced symbol.Colon ++ ref parts d ++ blank ∷ in_round (f.plain (names ++ name ∷ []))
+    word_ q ++ blank ∷ name_ name ++ spaced symbol.Colon ++ ref_pieces parts d ++ blank ∷ in_round (f.plain (names ++ name ∷ []))
 
 abbrev pub formula_text : Parts → Formula-F FormulaText → FormulaText
 formula_text parts (open_formula.Lone x) = own_group (term_plain parts x)
@@ -178,17 +178,17 @@ text_of_formula parts = fold-Formula FormulaText (formula_text parts)
 abbrev pub ended : List Piece → List Piece
 ended x = x ++ sign symbol.Semi ++ line_end ∷ []
 
-abbrev pub values_text : DomainKind → List Piece
-values_text kind.Bool = word_ word.Bool
-values_text (kind.Range low high) = integer low ++ sign symbol.Span ++ integer high
-values_text (kind.Words words) = sign symbol.LeftBrace ++ joined comma (map name_ words) ++ sign symbol.RightBrace
+abbrev pub values_pieces : DomainKind → List Piece
+values_pieces kind.Bool = word_ word.Bool
+values_pieces (kind.Range low high) = integer low ++ sign symbol.Span ++ integer high
+values_pieces (kind.Words words) = sign symbol.LeftBrace ++ joined_pieces comma (map name_ words) ++ sign symbol.RightBrace
 
 abbrev pub domain_text : Domain → List Piece
-domain_text domain = ended (word_ word.Domain ++ blank ∷ name_ domain.name ++ spaced symbol.Eq ++ values_text domain.kind)
+domain_text domain = ended (word_ word.Domain ++ blank ∷ name_ domain.name ++ spaced symbol.Eq ++ values_pieces domain.kind)
 
 abbrev pub item_text : Parts → Item → List Piece
 item_text parts item =
-    ended (word_ (item_word item.input) ++ blank ∷ name_ item.name ++ listed (map (ref parts) item.args) ++ spaced symbol.Colon ++ ref parts item.value)
+    ended (word_ (item_word item.input) ++ blank ∷ name_ item.name ++ listed_pieces (map (ref_pieces parts) item.args) ++ spaced symbol.Colon ++ ref_pieces parts item.value)
 
 -- nothing, or ` at ` and the instant
 abbrev pub at_text : Option ℕ → List Piece

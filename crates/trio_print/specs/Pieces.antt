@@ -23,8 +23,8 @@ piece_text blank = 32 ∷ []
 piece_text line_end = 10 ∷ []
 
 -- the text of these pieces
-abbrev pub text_of : List Piece → List ℕ
-text_of pieces = flat_map piece_text pieces
+abbrev pub pieces_text : List Piece → List ℕ
+pieces_text pieces = flat_map piece_text pieces
 
 abbrev lexemes_of_piece : Piece → List Lexeme
 lexemes_of_piece (token x) = x ∷ []

@@ -5,7 +5,7 @@ use Rattle.trio_types.specs.declared.formula.SignedTerm.{SignedTerm, out-SignedT
 use Rattle.trio_types.specs.Parts.{Parts}
 use Rattle.trio_types.specs.Verdict.{parts_of}
 use Rattle.trio_syntax.specs.Words.{adding_sign}
-use Rattle.trio_print.specs.Pieces.{Piece, text_of}
+use Rattle.trio_print.specs.Pieces.{Piece, pieces_text}
 use Rattle.trio_print.specs.Canonical.{Printed, PartText, sign, spaced, text_of_term}
 use Rattle.trio_print.specs.declared.printer.Printer.{Printer}
 
@@ -19,13 +19,13 @@ always pieces parts names = pieces
 
 -- The text of these pieces stands behind what stood there; nothing else changed.
 pub record Prints (printed : Parts → Printed) (old new : Printer) : Type 0 where
-  pub text : string_bytes new.text ≡ string_bytes old.text ++ text_of (printed (parts_of old.spec.now) (names_in old))
+  pub text : string_bytes new.text ≡ string_bytes old.text ++ pieces_text (printed (parts_of old.spec.now) (names_in old))
   pub names : new.names.items ≡ old.names.items
   pub spec : new.spec.now ≡ old.spec.now
 
 -- what stands before the element of this place: nothing before the first
-abbrev pub between : ℕ → List Piece → List Piece
-between place pieces = if place == 0 then [] else pieces
+abbrev pub between_pieces : ℕ → List Piece → List Piece
+between_pieces place pieces = if place == 0 then [] else pieces
 
 -- what stands before a part of a sum
 abbrev pub part_sign : Bool → Bool → List Piece

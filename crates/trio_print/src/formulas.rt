@@ -2,7 +2,7 @@
 ghost use Rattle.std.specs.Prelude.{◌≡◌, ◌++◌, ◌∷◌, [], List, ℕ, map, if◌then◌else◌, slice_get, OnOk};
 ghost use Rattle.trio_types.specs.Parts.{Parts};
 ghost use Rattle.trio_syntax.specs.Words.{rel_sign, far_word};
-ghost use Rattle.trio_print.specs.Canonical.{word_, sign, ref, spaced, comma, joined, in_round, term_plain, text_of_formula, quantified_text};
+ghost use Rattle.trio_print.specs.Canonical.{word_, sign, ref_pieces, spaced, comma, joined_pieces, in_round, term_plain, text_of_formula, quantified_text};
 ghost use Rattle.trio_print.specs.Printing.{Prints};
 
 use crate::printer::Printer;
@@ -104,7 +104,7 @@ impl<'a> Printer<'a> {
     /// Groups with this symbol between them.
     #[cycle(formulas)]
     fn groups(&mut self, symbol: Symbol, formulas: &'a [Formula]) -> Result<(), AllocError>
-        ensures { OnOk result (Prints (λ parts names. joined (spaced symbol) (map (λ f. (text_of_formula parts f).grouped names) formulas.now)) self.old self.new) }
+        ensures { OnOk result (Prints (λ parts names. joined_pieces (spaced symbol) (map (λ f. (text_of_formula parts f).grouped names) formulas.now)) self.old self.new) }
     {
         for (place, formula) in formulas.iter().enumerate() {
             self.spaced_before(place, symbol)?;
@@ -149,7 +149,7 @@ impl<'a> Printer<'a> {
 
     /// `bool`, or the name of the domain of this number.
     pub fn domain_ref(&mut self, domain: u32) -> Result<(), AllocError>
-        ensures { OnOk result (Prints (λ parts names. ref parts domain) self.old self.new) }
+        ensures { OnOk result (Prints (λ parts names. ref_pieces parts domain) self.old self.new) }
     {
         if domain == 0 {
             return self.word(Reserved::Bool);

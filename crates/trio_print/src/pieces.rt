@@ -2,7 +2,7 @@
 ghost use Rattle.std.specs.Prelude.{[], ◌∷◌, OnOk};
 ghost use Rattle.trio_print.specs.Pieces.{blank, line_end};
 ghost use Rattle.trio_print.specs.Canonical.{sign, word_, name_, number_, integer, spaced, comma};
-ghost use Rattle.trio_print.specs.Printing.{Prints, always, between};
+ghost use Rattle.trio_print.specs.Printing.{Prints, always, between_pieces};
 
 use crate::printer::Printer;
 use itoa::Buffer;
@@ -82,7 +82,7 @@ impl Printer<'_> {
 
     /// A comma and a blank, but before the first place.
     pub fn comma_before(&mut self, place: usize) -> Result<(), AllocError>
-        ensures { OnOk result (Prints (always (between place comma)) self.old self.new) }
+        ensures { OnOk result (Prints (always (between_pieces place comma)) self.old self.new) }
     {
         if place == 0 {
             return Ok(());
@@ -93,7 +93,7 @@ impl Printer<'_> {
 
     /// A symbol between blanks, but before the first place.
     pub fn spaced_before(&mut self, place: usize, symbol: Symbol) -> Result<(), AllocError>
-        ensures { OnOk result (Prints (always (between place (spaced symbol))) self.old self.new) }
+        ensures { OnOk result (Prints (always (between_pieces place (spaced symbol))) self.old self.new) }
     {
         if place == 0 {
             return Ok(());

@@ -2,8 +2,8 @@
 ghost use Rattle.std.specs.Prelude.{◌≡◌, ◌++◌, ◌∷◌, [], map, drop, OnOk, IfOk};
 ghost use Rattle.std.specs.List.{flat_map};
 ghost use Rattle.trio_types.specs.Verdict.{parts_of};
-ghost use Rattle.trio_print.specs.Pieces.{text_of, blank};
-ghost use Rattle.trio_print.specs.Canonical.{sign, word_, name_, integer, number_, ref, comma, joined, listed, ended, values_text, domain_text, item_text, at_text, claim_text, spec_pieces};
+ghost use Rattle.trio_print.specs.Pieces.{pieces_text, blank};
+ghost use Rattle.trio_print.specs.Canonical.{sign, word_, name_, integer, number_, ref_pieces, comma, joined_pieces, listed_pieces, ended, values_pieces, domain_text, item_text, at_text, claim_text, spec_pieces};
 ghost use Rattle.trio_print.specs.Printing.{Prints, always};
 
 use crate::printer::Printer;
@@ -14,7 +14,7 @@ use trio_types::{Axiom, Bytes, Domain, DomainKind, Item, List, Name, Spec};
 
 /// The canonical text of a specification; only want of memory refuses it.
 pub fn spec_text(alloc: Global, spec: &Spec) -> Result<Bytes, AllocError>
-    ensures { IfOk result (λ text. text ≡ text_of (spec_pieces (parts_of spec.now))) }
+    ensures { IfOk result (λ text. text ≡ pieces_text (spec_pieces (parts_of spec.now))) }
 {
     let mut printer = Printer {
         spec,
@@ -93,7 +93,7 @@ impl<'a> Printer<'a> {
 
     /// The values of a domain.
     fn values(&mut self, kind: &DomainKind) -> Result<(), AllocError>
-        ensures { OnOk result (Prints (always (values_text kind.now)) self.old self.new) }
+        ensures { OnOk result (Prints (always (values_pieces kind.now)) self.old self.new) }
     {
         match kind {
             DomainKind::Bool => self.word(Reserved::Bool),
@@ -114,7 +114,7 @@ impl<'a> Printer<'a> {
 
     /// Words in `{` and `}`.
     fn listed_words(&mut self, words: &[Name]) -> Result<(), AllocError>
-        ensures { OnOk result (Prints (always (sign Symbol.LeftBrace ++ joined comma (map name_ words.now) ++ sign Symbol.RightBrace)) self.old self.new) }
+        ensures { OnOk result (Prints (always (sign Symbol.LeftBrace ++ joined_pieces comma (map name_ words.now) ++ sign Symbol.RightBrace)) self.old self.new) }
     {
         self.sign(Symbol::LeftBrace)?;
         self.words(words)?;
@@ -124,7 +124,7 @@ impl<'a> Printer<'a> {
 
     /// Words with commas between them.
     fn words(&mut self, words: &[Name]) -> Result<(), AllocError>
-        ensures { OnOk result (Prints (λ parts names. joined comma (map name_ words.now)) self.old self.new) }
+        ensures { OnOk result (Prints (λ parts names. joined_pieces comma (map name_ words.now)) self.old self.new) }
     {
         for (place, word) in words.iter().enumerate() {
             self.comma_before(place)?;
@@ -156,7 +156,7 @@ impl<'a> Printer<'a> {
 
     /// Nothing, or the domains of an item's arguments in `(` and `)`.
     fn parameters(&mut self, domains: &[u32]) -> Result<(), AllocError>
-        ensures { OnOk result (Prints (λ parts names. listed (map (ref parts) domains.now)) self.old self.new) }
+        ensures { OnOk result (Prints (λ parts names. listed_pieces (map (ref_pieces parts) domains.now)) self.old self.new) }
     {
         if domains.is_empty() {
             return Ok(());
@@ -169,7 +169,7 @@ impl<'a> Printer<'a> {
 
     /// What names these domains, with commas between.
     fn domain_refs(&mut self, domains: &[u32]) -> Result<(), AllocError>
-        ensures { OnOk result (Prints (λ parts names. joined comma (map (ref parts) domains.now)) self.old self.new) }
+        ensures { OnOk result (Prints (λ parts names. joined_pieces comma (map (ref_pieces parts) domains.now)) self.old self.new) }
     {
         for (place, domain) in domains.iter().enumerate() {
             self.comma_before(place)?;

@@ -1,7 +1,7 @@
 //! Printing terms.
 ghost use Rattle.std.specs.Prelude.{◌≡◌, ◌++◌, List, ℕ, [], map, if◌then◌else◌, slice_get, slice_index_or, OnOk};
 ghost use Rattle.trio_types.specs.Parts.{Parts};
-ghost use Rattle.trio_print.specs.Canonical.{Printed, constant, name_, listed, joined, comma, in_square, sum_text, text_of_term, term_plain};
+ghost use Rattle.trio_print.specs.Canonical.{Printed, constant, name_, listed_pieces, joined_pieces, comma, in_square, sum_text, text_of_term, term_plain};
 ghost use Rattle.trio_print.specs.Printing.{Prints, always, part_sign, text_of_part};
 
 use crate::printer::Printer;
@@ -85,7 +85,7 @@ impl Printer<'_> {
     /// Nothing, or arguments in `(` and `)`.
     #[cycle(terms)]
     fn arguments(&mut self, terms: &[Term]) -> Result<(), AllocError>
-        ensures { OnOk result (Prints (λ parts names. listed (map (λ x. term_plain parts x names) terms.now)) self.old self.new) }
+        ensures { OnOk result (Prints (λ parts names. listed_pieces (map (λ x. term_plain parts x names) terms.now)) self.old self.new) }
     {
         if terms.is_empty() {
             return Ok(());
@@ -99,7 +99,7 @@ impl Printer<'_> {
     /// Terms with commas between them.
     #[cycle(terms)]
     fn terms(&mut self, terms: &[Term]) -> Result<(), AllocError>
-        ensures { OnOk result (Prints (λ parts names. joined comma (map (λ x. term_plain parts x names) terms.now)) self.old self.new) }
+        ensures { OnOk result (Prints (λ parts names. joined_pieces comma (map (λ x. term_plain parts x names) terms.now)) self.old self.new) }
     {
         for (place, term) in terms.iter().enumerate() {
             self.comma_before(place)?;

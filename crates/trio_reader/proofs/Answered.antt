@@ -1,5 +1,5 @@
 -- Every text is a specification or has a fault.
-use Rattle.std.proofs.Common.{◌≡◌, ◌≢◌, ℕ, ◌⊎◌, inl, inr, List, Option, None, Some, refl}
+use Rattle.std.proofs.Common.{◌≡◌, ℕ, ◌⊎◌, inl, inr, List, Option, None, Some, refl}
 use Rattle.trio_types.specs.declared.spec.Spec.{Spec}
 use Rattle.trio_types.specs.declared.spec.Which.{Which}
 use Rattle.trio_text.specs.declared.token.Token.{Token}
@@ -26,7 +26,7 @@ use Rattle.trio_reader.proofs.Phases.{unknown_is, twice_is, kind_is, range_is, l
 use Rattle.trio_reader.proofs.Texts.{text_formed}
 
 abbrev Answered : List ℕ → Type 0
-Answered text = ((spec : Spec) × IsSpecText text spec) ⊎ ((f : SpecFault) × (f ≢ fault.Memory) × HasFault text f)
+Answered text = ((spec : Spec) × IsSpecText text spec) ⊎ ((f : SpecFault) × HasFault text f)
 
 -- ---- the phases over trees
 
@@ -44,26 +44,26 @@ by_limit : (text : List ℕ) (tree : SpecTree) (found : Option (Which × ℕ)) �
 by_limit text tree None read ranged is =
     let sound : IsSound tree = record { formed = text_formed text tree read; sound = limit_is tree None ranged is } in
     inl (spec_from tree sound, record { tree = tree; read = read; answer = record { sound = sound.sound; stands = refl } })
-by_limit text tree (Some c) read ranged is = inr (fault.Limit c.0 c.1, (λ same. cc), (tree, read, limit_is tree (Some c) ranged is))
+by_limit text tree (Some c) read ranged is = inr (fault.Limit c.0 c.1, (tree, read, limit_is tree (Some c) ranged is))
 
 by_range : (text : List ℕ) (tree : SpecTree) (found : Option ℕ) → IsTreeText text tree → IsNamed tree → least (kind_places tree) ≡ None →
     least (out_of_range tree) ≡ found → Answered text
 by_range text tree None read named kinds is =
     by_limit text tree (count_fault (parts_of_tree tree)) read (record { named = named; kinds = kinds; ranges = is }) refl
-by_range text tree (Some place) read named kinds is = inr (fault.Range place, (λ same. cc), (tree, read, range_is tree (Some place) named kinds is))
+by_range text tree (Some place) read named kinds is = inr (fault.Range place, (tree, read, range_is tree (Some place) named kinds is))
 
 by_kind : (text : List ℕ) (tree : SpecTree) (found : Option ℕ) → IsTreeText text tree → IsNamed tree → least (kind_places tree) ≡ found → Answered text
 by_kind text tree None read named is = by_range text tree (least (out_of_range tree)) read named is refl
-by_kind text tree (Some place) read named is = inr (fault.Kind place, (λ same. cc), (tree, read, kind_is tree (Some place) named is))
+by_kind text tree (Some place) read named is = inr (fault.Kind place, (tree, read, kind_is tree (Some place) named is))
 
 by_twice : (text : List ℕ) (tree : SpecTree) (found : Option ℕ) → IsTreeText text tree → least (unknown_places tree) ≡ None →
     least (repeated_places tree) ≡ found → Answered text
 by_twice text tree None read known is = by_kind text tree (least (kind_places tree)) read (record { known = known; once = is }) refl
-by_twice text tree (Some place) read known is = inr (fault.Twice place, (λ same. cc), (tree, read, twice_is tree (Some place) known is))
+by_twice text tree (Some place) read known is = inr (fault.Twice place, (tree, read, twice_is tree (Some place) known is))
 
 by_unknown : (text : List ℕ) (tree : SpecTree) (found : Option ℕ) → IsTreeText text tree → least (unknown_places tree) ≡ found → Answered text
 by_unknown text tree None read is = by_twice text tree (least (repeated_places tree)) read is refl
-by_unknown text tree (Some place) read is = inr (fault.Unknown place, (λ same. cc), (tree, read, unknown_is tree (Some place) is))
+by_unknown text tree (Some place) read is = inr (fault.Unknown place, (tree, read, unknown_is tree (Some place) is))
 
 -- ---- the phases over texts
 
@@ -71,16 +71,16 @@ by_tree : (text : List ℕ) (tokens : List Token) → IsShallow text tokens →
     ((tree : SpecTree) × IsReading IsSpec (lexemes_of text tokens) tree) ⊎ ((place : ℕ) × IsSyntaxFault IsSpec (lexemes_of text tokens) place) → Answered text
 by_tree text tokens shallow (inl read) =
     by_unknown text read.0 (least (unknown_places read.0)) (record { tokens = tokens; shallow = shallow; tree_read = read.1.reading }) refl
-by_tree text tokens shallow (inr stuck) = inr (fault.Syntax stuck.0, (λ same. cc), (tokens, shallow, stuck.1))
+by_tree text tokens shallow (inr stuck) = inr (fault.Syntax stuck.0, (tokens, shallow, stuck.1))
 
 by_depth : (text : List ℕ) (tokens : List Token) (found : Option ℕ) → IsTokens text tokens → first_deep (lexemes_of text tokens) ≡ found → Answered text
 by_depth text tokens None lexed is =
     by_tree text tokens (record { lexed = lexed; shallow = is }) (tree_or_fault (lexemes_of text tokens))
-by_depth text tokens (Some place) lexed is = inr (fault.Deep place, (λ same. cc), (tokens, lexed, is))
+by_depth text tokens (Some place) lexed is = inr (fault.Deep place, (tokens, lexed, is))
 
 by_tokens : (text : List ℕ) → ((tokens : List Token) × IsTokens text tokens) ⊎ ((place : ℕ) × IsLexFault text place) → Answered text
 by_tokens text (inl lexed) = by_depth text lexed.0 (first_deep (lexemes_of text lexed.0)) lexed.1 refl
-by_tokens text (inr stuck) = inr (fault.Lex stuck.0, (λ same. cc), stuck.1)
+by_tokens text (inr stuck) = inr (fault.Lex stuck.0, stuck.1)
 
 pub answered : (text : List ℕ) → Answered text
 answered text = by_tokens text (tokens_or_fault text)

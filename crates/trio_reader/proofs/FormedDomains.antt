@@ -21,7 +21,7 @@ use Rattle.trio_syntax.specs.declared.tree.ValuesTree.TheVariants as values
 use Rattle.trio_syntax.specs.declared.tree.DeclarationTree.{DeclarationTree}
 use Rattle.trio_syntax.specs.declared.tree.DeclarationTree.TheVariants as statement
 use Rattle.trio_syntax.specs.declared.tree.SpecTree.{SpecTree}
-use Rattle.trio_syntax.specs.Shape.{names_a_name, values_are_formed, declaration_is_formed, claim_is_formed, is_formed}
+use Rattle.trio_syntax.specs.Shape.{mentions_a_name, values_are_formed, declaration_is_formed, claim_is_formed, is_formed}
 use Rattle.trio_scope.specs.Places.{least, unless}
 use Rattle.trio_scope.specs.Names.{domains_in, items_in}
 use Rattle.trio_scope.specs.Gather.{places_in_claims}
@@ -108,7 +108,7 @@ each_domain : (statements : List DeclarationTree) → list_all declaration_is_fo
 each_domain [] formed none = refl
 each_domain (statement.Domain d ∷ rest) formed none =
     let f = and_parts (declaration_is_formed (statement.Domain d)) (list_all declaration_is_formed rest) formed in
-    let g = and_parts (names_a_name d.name) (values_are_formed d.values) f.0 in
+    let g = and_parts (mentions_a_name d.name) (values_are_formed d.values) f.0 in
     let n = append_empty (values_places d.values) (flat_map statement_places rest) none in
     and_from (values_fit (values_kind d.values)) (list_all (λ (domain : Domain). values_fit domain.kind) (map domain_from (domains_in rest)))
     (values_in_range d.values g.1 n.0) (each_domain rest f.1 n.1)

@@ -12,7 +12,7 @@ use Rattle.trio_base.specs.declared.operators.PairOp.{PairOp}
 use Rattle.trio_types.specs.declared.spec.Axiom.{Axiom}
 use Rattle.trio_types.specs.declared.formula.Formula.{Formula}
 use Rattle.trio_types.specs.WellFormed.{kinds_are_right}
-use Rattle.trio_types.specs.Kinds.{Use, kind_in, term_uses, is_right, in_role, of_domain, alone, distance, compared, uses, item_uses}
+use Rattle.trio_types.specs.Kinds.{Use, kind_in, term_uses, is_right, required, of_domain, alone, distance, compared, uses, item_uses}
 use Rattle.trio_types.proofs.KindsAt.{uses-Lone, uses-Compare, uses-Not, uses-And, uses-Or, uses-Implies, uses-Iff, uses-All, uses-Ex, uses-One, uses-Far, uses-Pair}
 use Rattle.trio_syntax.specs.declared.tree.Quantifier.{Quantifier}
 use Rattle.trio_syntax.specs.declared.tree.Quantifier.TheVariants as quantifier
@@ -71,13 +71,13 @@ fine_lone tree t e clean =
     let found = sym (in-Lone (kind_finding tree) e t) ∙ clean in
     ap (formula_right tree e) (formula-Lone tree e t)
     ∙ ap (list_all is_right) (uses-Lone (world_of_tree tree) (term_of tree t e) (domains_of tree e))
-    ∙ and_from (is_right (in_role alone (kind_of tree e t))) (list_all is_right (term_uses (world_of_tree tree) (domains_of tree e) false (term_of tree t e)))
-    (one_right (out-TermTree t).place (in_role alone (kind_of tree e t)) (role_right tree t e role.Alone false found)) (term_right tree t e role.Alone false found)
+    ∙ and_from (is_right (required alone (kind_of tree e t))) (list_all is_right (term_uses (world_of_tree tree) (domains_of tree e) false (term_of tree t e)))
+    (one_right (out-TermTree t).place (required alone (kind_of tree e t)) (role_right tree t e role.Alone false found)) (term_right tree t e role.Alone false found)
 
 fine_compare : (tree : SpecTree) (rel : Rel) (p : ℕ) (t u : TermTree) → Fine tree (formula.Compare rel p t u)
 unfolding Fine
 fine_compare tree rel p t u e clean =
-    let here : Use = in_role (compared rel (kind_of tree e t)) (kind_of tree e u) in
+    let here : Use = required (compared rel (kind_of tree e t)) (kind_of tree e u) in
     let left : List ℕ = places_in_term (kind_finding tree) t e role.Compared false in
     let right : List ℕ = places_in_term (kind_finding tree) u e role.Compared false in
     let both = append_empty (wrong_places (placed p here ∷ [])) (left ++ right) (sym (in-Compare (kind_finding tree) e rel p t u) ∙ clean) in
@@ -109,8 +109,8 @@ fine_far tree op f t part e clean =
     let second : List Use = term_uses (world_of_tree tree) (domains_of tree e) true (term_of tree t e) in
     ap (formula_right tree e) (formula-Far tree e op f t)
     ∙ ap (list_all is_right) (uses-Far (world_of_tree tree) op (formula_of tree f e) (term_of tree t e) (domains_of tree e))
-    ∙ and_from (is_right (in_role distance (kind_of tree e t))) (list_all is_right (first ++ second))
-    (one_right (out-TermTree t).place (in_role distance (kind_of tree e t)) (role_right tree t e role.Distance true both.1))
+    ∙ and_from (is_right (required distance (kind_of tree e t))) (list_all is_right (first ++ second))
+    (one_right (out-TermTree t).place (required distance (kind_of tree e t)) (role_right tree t e role.Distance true both.1))
     (all_both is_right first second (part e both.0) (term_right tree t e role.Distance true both.1))
 
 -- two parts side by side

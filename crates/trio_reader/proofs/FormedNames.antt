@@ -10,7 +10,7 @@ use Rattle.std.proofs.lemmas.Slice.Eq.{bytes_eq-Decides}
 use Rattle.trio_base.specs.Names.{is_name}
 use Rattle.trio_types.specs.declared.spec.Item.{Item}
 use Rattle.trio_types.specs.declared.spec.Axiom.{Axiom}
-use Rattle.trio_types.specs.Names.{words_of as words_of_kind, names_of_domain, declared_names, are_distinct, variables_of}
+use Rattle.trio_types.specs.Names.{words_of, names_of_domain, declared_names, are_distinct, variables_of}
 use Rattle.trio_types.specs.WellFormed.{names_are_names, names_are_distinct}
 use Rattle.trio_syntax.specs.declared.tree.Mention.{Mention}
 use Rattle.trio_syntax.specs.declared.tree.ValuesTree.{ValuesTree}
@@ -19,10 +19,10 @@ use Rattle.trio_syntax.specs.declared.tree.DeclarationTree.{DeclarationTree}
 use Rattle.trio_syntax.specs.declared.tree.DeclarationTree.TheVariants as statement
 use Rattle.trio_syntax.specs.declared.tree.ClaimTree.{ClaimTree}
 use Rattle.trio_syntax.specs.declared.tree.SpecTree.{SpecTree}
-use Rattle.trio_syntax.specs.Shape.{names_a_name, ref_is_formed, values_are_formed, declaration_is_formed, formula_is_formed, claim_is_formed, is_formed}
+use Rattle.trio_syntax.specs.Shape.{mentions_a_name, ref_is_formed, values_are_formed, declaration_is_formed, formula_is_formed, claim_is_formed, is_formed}
 use Rattle.trio_scope.specs.declared.meaning.Meaning.TheVariants as meaning
 use Rattle.trio_scope.specs.Places.{least, unless}
-use Rattle.trio_scope.specs.Names.{Declaration, declaration, words_from, words_of, declared_from, declarations, domains_in, items_in, is_declared, repeated_behind}
+use Rattle.trio_scope.specs.Names.{Declaration, declaration, words_from, declared_words, declared_from, declarations, domains_in, items_in, is_declared, repeated_behind}
 use Rattle.trio_scope.specs.Gather.{places_in_claims}
 use Rattle.trio_scope.specs.Scope.{twice_finding, repeated_places}
 use Rattle.trio_reader.specs.Erasure.{values_kind, domain_from, item_from, axiom_from, is_wanted, claims_from, parts_of_tree}
@@ -96,7 +96,7 @@ pub words_from_names : (domain index : ℕ) (ws : List Mention) → names_of (wo
 words_from_names domain index [] = refl
 words_from_names domain index (w ∷ ws) = ap (λ ns. w.name ∷ ns) (words_from_names domain (index + 1) ws)
 
-pub words_names : (domain : ℕ) (v : ValuesTree) → names_of (words_of domain v) ≡ words_of_kind (values_kind v)
+pub words_names : (domain : ℕ) (v : ValuesTree) → names_of (declared_words domain v) ≡ words_of (values_kind v)
 words_names domain (values.Range low high) = refl
 words_names domain (values.Words ws) = words_from_names domain 0 ws
 
@@ -116,12 +116,12 @@ module _ (tree : SpecTree) where
   statements_same name domains items [] = omega arith
   statements_same name domains items (statement.Domain d ∷ rest) =
       let before = statements_same name (domains + 1) items rest in
-      let first : times name (names_of (words_of domains d.values ++ declared_from (domains + 1) items rest))
-      ≡ times name (words_of_kind (values_kind d.values)) + times name (names_of (declared_from (domains + 1) items rest)) =
-      ap (times name) (names_of-append (words_of domains d.values) (declared_from (domains + 1) items rest)
+      let first : times name (names_of (declared_words domains d.values ++ declared_from (domains + 1) items rest))
+      ≡ times name (words_of (values_kind d.values)) + times name (names_of (declared_from (domains + 1) items rest)) =
+      ap (times name) (names_of-append (declared_words domains d.values) (declared_from (domains + 1) items rest)
       ∙ ap (λ ns. ns ++ names_of (declared_from (domains + 1) items rest)) (words_names domains d.values))
-      ∙ times-append name (words_of_kind (values_kind d.values)) (names_of (declared_from (domains + 1) items rest)) in
-      let second = times-append name (words_of_kind (values_kind d.values)) (domain_names rest) in
+      ∙ times-append name (words_of (values_kind d.values)) (names_of (declared_from (domains + 1) items rest)) in
+      let second = times-append name (words_of (values_kind d.values)) (domain_names rest) in
       omega arith
   statements_same name domains items (statement.Item i ∷ rest) =
       let before = statements_same name domains (items + 1) rest in omega arith
@@ -223,7 +223,7 @@ same_declared tree name =
     ∙ sym (any_times name (names_of (declarations tree))) ∙ any_named name (declarations tree)
 
 -- names are names
-words_named : (v : ValuesTree) → values_are_formed v ≡ true → list_all is_name (words_of_kind (values_kind v)) ≡ true
+words_named : (v : ValuesTree) → values_are_formed v ≡ true → list_all is_name (words_of (values_kind v)) ≡ true
 words_named (values.Range low high) formed = refl
 words_named (values.Words []) formed = refl
 words_named (values.Words (w ∷ ws)) formed = list_all-map is_name (λ (w : Mention). w.name) (w ∷ ws) ∙ formed
@@ -233,9 +233,9 @@ domains_named : (statements : List DeclarationTree) → list_all declaration_is_
 domains_named [] formed = refl
 domains_named (statement.Domain d ∷ rest) formed =
     let f = and_parts (declaration_is_formed (statement.Domain d)) (list_all declaration_is_formed rest) formed in
-    let g = and_parts (names_a_name d.name) (values_are_formed d.values) f.0 in
-    list_all-append is_name (d.name.name ∷ words_of_kind (values_kind d.values)) (flat_map names_of_domain (map domain_from (domains_in rest)))
-    ∙ and_from _ _ (and_from (is_name d.name.name) (list_all is_name (words_of_kind (values_kind d.values))) g.0 (words_named d.values g.1)) (domains_named rest f.1)
+    let g = and_parts (mentions_a_name d.name) (values_are_formed d.values) f.0 in
+    list_all-append is_name (d.name.name ∷ words_of (values_kind d.values)) (flat_map names_of_domain (map domain_from (domains_in rest)))
+    ∙ and_from _ _ (and_from (is_name d.name.name) (list_all is_name (words_of (values_kind d.values))) g.0 (words_named d.values g.1)) (domains_named rest f.1)
 domains_named (statement.Item i ∷ rest) formed = domains_named rest (and_parts (declaration_is_formed (statement.Item i)) (list_all declaration_is_formed rest) formed).1
 
 items_named : (tree : SpecTree) (statements : List DeclarationTree) → list_all declaration_is_formed statements ≡ true →
@@ -245,9 +245,9 @@ items_named tree (statement.Domain d ∷ rest) formed =
     items_named tree rest (and_parts (declaration_is_formed (statement.Domain d)) (list_all declaration_is_formed rest) formed).1
 items_named tree (statement.Item i ∷ rest) formed =
     let f = and_parts (declaration_is_formed (statement.Item i)) (list_all declaration_is_formed rest) formed in
-    let g = and_parts (names_a_name i.name && list_all ref_is_formed i.args) (ref_is_formed i.value) f.0 in
+    let g = and_parts (mentions_a_name i.name && list_all ref_is_formed i.args) (ref_is_formed i.value) f.0 in
     and_from (is_name i.name.name) (list_all is_name (map (λ (item : Item). item.name) (map (item_from tree) (items_in rest))))
-    (and_parts (names_a_name i.name) (list_all ref_is_formed i.args) g.0).0 (items_named tree rest f.1)
+    (and_parts (mentions_a_name i.name) (list_all ref_is_formed i.args) g.0).0 (items_named tree rest f.1)
 
 claims_named : (tree : SpecTree) (claims : List ClaimTree) → list_all claim_is_formed claims ≡ true →
     list_all (λ (c : ClaimTree). is_name (axiom_from tree c).name) claims ≡ true
@@ -255,7 +255,7 @@ claims_named tree [] formed = refl
 claims_named tree (c ∷ cs) formed =
     let both = and_parts (claim_is_formed c) (list_all claim_is_formed cs) formed in
     and_from (is_name c.name.name) (list_all (λ (c : ClaimTree). is_name (axiom_from tree c).name) cs)
-    (and_parts (names_a_name c.name) (formula_is_formed c.formula) both.0).0 (claims_named tree cs both.1)
+    (and_parts (mentions_a_name c.name) (formula_is_formed c.formula) both.0).0 (claims_named tree cs both.1)
 
 pub names_are_names_from_form : (tree : SpecTree) → is_formed tree ≡ true → names_are_names (parts_of_tree tree) ≡ true
 unfolding parts_of_tree

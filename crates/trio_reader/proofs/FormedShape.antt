@@ -28,7 +28,7 @@ use Rattle.trio_syntax.specs.declared.tree.FormulaTree.TheFolds.{fold-roll-Formu
 use Rattle.trio_syntax.specs.declared.tree.FormulaTree.TheViews.{roll-FormulaTree}
 use Rattle.trio_syntax.specs.declared.tree.ClaimTree.{ClaimTree}
 use Rattle.trio_syntax.specs.declared.tree.SpecTree.{SpecTree}
-use Rattle.trio_syntax.specs.Shape.{names_a_name, some_all, two_all, Part, is_sum, shape_is_formed, part_formed, term_formed, term_is_formed, ref_is_formed, node_is_formed, formula_is_formed, declaration_is_formed, claim_is_formed, is_formed}
+use Rattle.trio_syntax.specs.Shape.{mentions_a_name, some_all, two_all, Part, is_sum, shape_is_formed, part_formed, term_formed, term_is_formed, ref_is_formed, node_is_formed, formula_is_formed, declaration_is_formed, claim_is_formed, is_formed}
 use Rattle.trio_scope.specs.Gather.{Variable}
 use Rattle.trio_reader.specs.declared.sense.Sense.{Sense}
 use Rattle.trio_reader.specs.declared.sense.Sense.TheVariants as sense
@@ -137,7 +137,7 @@ module _ (tree : SpecTree) where
     at_truth = λ b e formed. ap term_is_shaped (shape-Truth tree e b) ∙ term_is_shaped-Value 0 (if b then 1 else 0);
     at_named = λ m e formed. ap term_is_shaped (shape-Named tree e m) ∙ named_shaped (sense_of tree e m.name);
     at_call = λ m args each e formed.
-        let all = and_parts (names_a_name m) (some_all (map term_is_formed args)) (sym (shape_at (open_shape.Call m args) (shape.rolls-Call m args)) ∙ formed) in
+        let all = and_parts (mentions_a_name m) (some_all (map term_is_formed args)) (sym (shape_at (open_shape.Call m args) (shape.rolls-Call m args)) ∙ formed) in
         let many = and_parts (nat_le 1 (length (map term_is_formed args))) (list_all (λ b. b) (map term_is_formed args)) all.1 in
         ap term_is_shaped (shape-Call tree e m args) ∙ term_is_shaped-Read _ (map (λ t. term_of tree t e) args)
         ∙ list_all-map term_is_shaped (λ t. term_of tree t e) args
@@ -201,7 +201,7 @@ module _ (tree : SpecTree) where
         ap is_shaped (formula-Iff tree e f g) ∙ is_shaped-Iff (formula_of tree f e) (formula_of tree g e)
         ∙ both_shaped f g first second e (sym (formula_at (open_formula.Iff f g) (tree_formula.rolls-Iff f g)) ∙ formed);
     at_quantified = λ q x ref f is e formed.
-        let both = and_parts (names_a_name x && ref_is_formed ref) (formula_is_formed f)
+        let both = and_parts (mentions_a_name x && ref_is_formed ref) (formula_is_formed f)
         (sym (formula_at (open_formula.Quantified q x ref f) (tree_formula.rolls-Quantified q x ref f)) ∙ formed) in
         ap is_shaped (formula-Quantified tree e q x ref f)
         ∙ quantified_shaped q x.name (domain_of tree ref) (formula_of tree f (e ++ record { name = x.name; domain = ref } ∷ []))
@@ -223,7 +223,7 @@ module _ (tree : SpecTree) where
   shaped_claims [] formed = refl
   shaped_claims (c ∷ cs) formed =
       let both = and_parts (claim_is_formed c) (list_all claim_is_formed cs) formed in
-      let own = and_parts (names_a_name c.name) (formula_is_formed c.formula) both.0 in
+      let own = and_parts (mentions_a_name c.name) (formula_is_formed c.formula) both.0 in
       and_from (is_shaped (formula_of tree c.formula [])) (list_all (λ c. is_shaped (formula_of tree c.formula [])) cs)
       (every_formula ShapedFormula shaped_cases c.formula [] own.1) (shaped_claims cs both.1)
 
@@ -274,12 +274,12 @@ module _ (tree : SpecTree) where
         ap (λ x. are_names (variables_of x)) (formula-Iff tree e f g) ∙ ap are_names (variables_of-Iff (formula_of tree f e) (formula_of tree g e))
         ∙ both_named f g first second e (sym (formula_at (open_formula.Iff f g) (tree_formula.rolls-Iff f g)) ∙ formed);
     at_quantified = λ q x ref f is e formed.
-        let both = and_parts (names_a_name x && ref_is_formed ref) (formula_is_formed f)
+        let both = and_parts (mentions_a_name x && ref_is_formed ref) (formula_is_formed f)
         (sym (formula_at (open_formula.Quantified q x ref f) (tree_formula.rolls-Quantified q x ref f)) ∙ formed) in
         let inner : Formula = formula_of tree f (e ++ record { name = x.name; domain = ref } ∷ []) in
         ap (λ y. are_names (variables_of y)) (formula-Quantified tree e q x ref f)
         ∙ ap are_names (quantified_variables q x.name (domain_of tree ref) inner)
-        ∙ and_from (is_name x.name) (are_names (variables_of inner)) (and_parts (names_a_name x) (ref_is_formed ref) both.0).0
+        ∙ and_from (is_name x.name) (are_names (variables_of inner)) (and_parts (mentions_a_name x) (ref_is_formed ref) both.0).0
         (is (e ++ record { name = x.name; domain = ref } ∷ []) both.1);
     at_one = λ op f is e formed.
         ap (λ x. are_names (variables_of x)) (formula-One tree e op f) ∙ ap are_names (variables_of-One op (formula_of tree f e))
@@ -299,7 +299,7 @@ module _ (tree : SpecTree) where
   named_claims [] formed = refl
   named_claims (c ∷ cs) formed =
       let both = and_parts (claim_is_formed c) (list_all claim_is_formed cs) formed in
-      let own = and_parts (names_a_name c.name) (formula_is_formed c.formula) both.0 in
+      let own = and_parts (mentions_a_name c.name) (formula_is_formed c.formula) both.0 in
       and_from (list_all is_name (variables_of (formula_of tree c.formula []))) (list_all (λ c. list_all is_name (variables_of (formula_of tree c.formula []))) cs)
       (every_formula NamedFormula named_cases c.formula [] own.1) (named_claims cs both.1)
 

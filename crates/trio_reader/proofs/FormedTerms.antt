@@ -9,8 +9,7 @@ use Rattle.std.proofs.lemmas.List.Folds.{list_all-append, list_all-map}
 use Rattle.trio_types.specs.declared.spec.Item.{Item}
 use Rattle.trio_types.specs.declared.formula.Term.{Term}
 use Rattle.trio_types.specs.declared.formula.SignedTerm.{SignedTerm, out-SignedTerm, out-roll-SignedTerm}
-use Rattle.trio_types.specs.Kinds.{Use, Gathered, gathered, kind_in, term_uses, is_right, in_role, named, part, argument, of_item, argument_uses}
-use Rattle.trio_types.specs.Kinds.{args_of as arguments_of}
+use Rattle.trio_types.specs.Kinds.{Use, Gathered, gathered, kind_in, term_uses, is_right, required, named, part, argument, of_item, argument_uses, args_of}
 use Rattle.trio_types.proofs.Lists.{all_left, all_right, map-map, map_same}
 use Rattle.trio_types.proofs.KindsAt.{gathered-Number, gathered-Value, gathered-Read, gathered-Sum, gathered-Times}
 use Rattle.trio_syntax.specs.declared.tree.Mention.{Mention}
@@ -29,7 +28,7 @@ use Rattle.trio_scope.specs.Places.{unless}
 use Rattle.trio_scope.specs.Gather.{Variable, places_in_term, places_in_shape, places_in_arguments, places_in_sum}
 use Rattle.trio_scope.proofs.Gathers.{in-term, in-Call, in-Sum, in-Times}
 use Rattle.trio_reader.specs.Erasure.{domains_of, world_of_tree, shape_of, term_of, part_from, sense_of, sense_term, sense_item, item_count}
-use Rattle.trio_reader.specs.Kinds.{Placed, placed, wrong_places, kind_of, role_uses, args_of, argument_use, item_use, shape_uses, own_uses, kind_finding}
+use Rattle.trio_reader.specs.Kinds.{PlacedUse, placed, wrong_places, kind_of, role_uses, argument_use, item_use, shape_uses, own_uses, kind_finding}
 use Rattle.trio_reader.proofs.Erased.{term-shape, shape-Number, shape-Truth, shape-Named, shape-Call, shape-Sum, shape-Times}
 use Rattle.trio_reader.proofs.KindLemmas.{truth-constant}
 use Rattle.trio_reader.proofs.FormedPhases.{append_empty, unless_empty}
@@ -39,10 +38,10 @@ pub all_both : {X : Type 0} (p : X → Bool) (xs ys : List X) → list_all p xs 
 all_both p xs ys first second = list_all-append p xs ys ∙ and_from (list_all p xs) (list_all p ys) first second
 
 -- where no place is wrong, each use is right
-abbrev pub placed_right : Placed → Bool
+abbrev pub placed_right : PlacedUse → Bool
 placed_right u = is_right u.use_
 
-pub no_wrong : (us : List Placed) → wrong_places us ≡ [] → list_all placed_right us ≡ true
+pub no_wrong : (us : List PlacedUse) → wrong_places us ≡ [] → list_all placed_right us ≡ true
 no_wrong [] is = refl
 no_wrong (u ∷ us) is =
     let both = append_empty (unless (is_right u.use_) u.place) (wrong_places us) is in
@@ -111,7 +110,7 @@ unfolding ShapeFine
 fine_truth tree b e inside own clean =
     ap (uses_right tree e inside) (shape-Truth tree e b)
     ∙ ap (λ (g : Gathered). list_all is_right (g.uses inside)) (gathered-Value (world_of_tree tree) (domains_of tree e) 0 (if b then 1 else 0))
-    ∙ ap (λ k. list_all is_right (in_role named k ∷ [])) (truth-constant tree b)
+    ∙ ap (λ k. list_all is_right (required named k ∷ [])) (truth-constant tree b)
 
 fine_name : (tree : SpecTree) (m : Mention) → ShapeFine tree (shape.Named m)
 unfolding ShapeFine
@@ -119,11 +118,6 @@ fine_name tree m e inside own clean =
     ap (uses_right tree e inside) (shape-Named tree e m)
     ∙ sym (list_all-map placed_right (placed m.place) (term_uses (world_of_tree tree) (domains_of tree e) inside (sense_term (sense_of tree e m.name))))
     ∙ sym (ap (λ s. list_all placed_right (shape_uses tree e inside s)) (shape.outs-Named m)) ∙ own
-
--- the arguments of an item, by the text and by its parts
-same_arguments : (o : Option Item) → args_of o ≡ arguments_of o
-same_arguments None = refl
-same_arguments (Some item) = refl
 
 module _ (tree : SpecTree) (e : List Variable) where
   abbrev gathered_of : TermTree → Gathered
@@ -135,7 +129,7 @@ module _ (tree : SpecTree) (e : List Variable) where
   arguments_right (d ∷ ds) [] all = refl
   arguments_right (d ∷ ds) (a ∷ as_) all =
       let both = and_parts (placed_right (argument_use tree e (d, a))) (list_all placed_right (map (argument_use tree e) (zip ds as_))) all in
-      and_from (is_right (in_role (argument (kind_in (world_of_tree tree) d)) (kind_of tree e a)))
+      and_from (is_right (required (argument (kind_in (world_of_tree tree) d)) (kind_of tree e a)))
       (list_all is_right (argument_uses (world_of_tree tree) ds (map gathered_of as_))) both.0 (arguments_right ds as_ both.1)
 
   in_arguments : (xs : List (SomeTerm tree)) → places_in_arguments (kind_finding tree) e (map (λ x. x.0) xs) ≡ [] →
@@ -148,14 +142,14 @@ module _ (tree : SpecTree) (e : List Variable) where
       (flat_map (λ (g : Gathered). g.uses true) (map gathered_of (map (λ x. x.0) xs))) (x.1 e role.Argument true both.0) (in_arguments xs both.1)
 
   parts_right : (inside : Bool) (ps : List PartTree) → places_in_sum (kind_finding tree) e inside ps ≡ [] →
-      list_all is_right (map (λ (g : Gathered). in_role part g.kind) (map (λ p. gathered_of (out-PartTree p).term) ps)) ≡ true
+      list_all is_right (map (λ (g : Gathered). required part g.kind) (map (λ p. gathered_of (out-PartTree p).term) ps)) ≡ true
   parts_right inside [] clean = refl
   parts_right inside (p ∷ ps) clean =
       let t : TermTree = (out-PartTree p).term in
       let both = append_empty (places_in_term (kind_finding tree) t e role.Part inside) (places_in_sum (kind_finding tree) e inside ps) clean in
-      and_from (is_right (in_role part (kind_of tree e t)))
-      (list_all is_right (map (λ (g : Gathered). in_role part g.kind) (map (λ p. gathered_of (out-PartTree p).term) ps)))
-      (one_right (out-TermTree t).place (in_role part (kind_of tree e t)) (role_right tree t e role.Part inside both.0)) (parts_right inside ps both.1)
+      and_from (is_right (required part (kind_of tree e t)))
+      (list_all is_right (map (λ (g : Gathered). required part g.kind) (map (λ p. gathered_of (out-PartTree p).term) ps)))
+      (one_right (out-TermTree t).place (required part (kind_of tree e t)) (role_right tree t e role.Part inside both.0)) (parts_right inside ps both.1)
 
   in_parts : (inside : Bool) (xs : List (SomePart tree)) → places_in_sum (kind_finding tree) e inside (map (λ x. x.0) xs) ≡ [] →
       list_all is_right (flat_map (λ (g : Gathered). g.uses inside) (map (λ p. gathered_of (out-PartTree p).term) (map (λ x. x.0) xs))) ≡ true
@@ -191,15 +185,15 @@ fine_call tree m xs e inside own clean =
     ap (uses_right tree e inside) (shape-Call tree e m args)
     ∙ ap (λ (g : Gathered). list_all is_right (g.uses inside)) (gathered-Read (world_of_tree tree) (domains_of tree e) n terms)
     ∙ ap (λ hs. list_all is_right (of_item inside (option_map (λ (item : Item). length item.args) o) (length hs)
-    ∷ argument_uses (world_of_tree tree) (arguments_of o) hs ++ flat_map (λ (g : Gathered). g.uses true) hs)) same
+    ∷ argument_uses (world_of_tree tree) (args_of o) hs ++ flat_map (λ (g : Gathered). g.uses true) hs)) same
     ∙ and_from (is_right (of_item inside (option_map (λ (item : Item). length item.args) o) (length (map (gathered_of tree e) args))))
-    (list_all is_right (argument_uses (world_of_tree tree) (arguments_of o) (map (gathered_of tree e) args)
+    (list_all is_right (argument_uses (world_of_tree tree) (args_of o) (map (gathered_of tree e) args)
     ++ flat_map (λ (g : Gathered). g.uses true) (map (gathered_of tree e) args)))
     (ap (λ k. is_right (item_use tree inside n k)) (length-map args (gathered_of tree e)) ∙ read.0)
-    (all_both is_right (argument_uses (world_of_tree tree) (arguments_of o) (map (gathered_of tree e) args))
+    (all_both is_right (argument_uses (world_of_tree tree) (args_of o) (map (gathered_of tree e) args))
     (flat_map (λ (g : Gathered). g.uses true) (map (gathered_of tree e) args))
-    (arguments_right tree e (arguments_of o) args
-    (ap (λ ds. list_all placed_right (map (argument_use tree e) (zip ds args))) (sym (same_arguments o)) ∙ read.1))
+    (arguments_right tree e (args_of o) args
+    read.1)
     (in_arguments tree e xs (sym (in-Call (kind_finding tree) e inside m args) ∙ clean)))
 
 fine_sum : (tree : SpecTree) (xs : List (SomePart tree)) → ShapeFine tree (shape.Sum (map (λ x. x.0) xs))
@@ -210,8 +204,8 @@ fine_sum tree xs e inside own clean =
     let found = sym (in-Sum (kind_finding tree) e inside ps) ∙ clean in
     ap (uses_right tree e inside) (shape-Sum tree e ps)
     ∙ ap (λ (g : Gathered). list_all is_right (g.uses inside)) (gathered-Sum (world_of_tree tree) (domains_of tree e) (map (λ p. part_from tree p e) ps))
-    ∙ ap (λ hs. list_all is_right (map (λ (g : Gathered). in_role part g.kind) hs ++ flat_map (λ (g : Gathered). g.uses inside) hs)) (signed_parts tree e ps)
-    ∙ all_both is_right (map (λ (g : Gathered). in_role part g.kind) gs) (flat_map (λ (g : Gathered). g.uses inside) gs)
+    ∙ ap (λ hs. list_all is_right (map (λ (g : Gathered). required part g.kind) hs ++ flat_map (λ (g : Gathered). g.uses inside) hs)) (signed_parts tree e ps)
+    ∙ all_both is_right (map (λ (g : Gathered). required part g.kind) gs) (flat_map (λ (g : Gathered). g.uses inside) gs)
     (parts_right tree e inside ps found) (in_parts tree e inside xs found)
 
 fine_times : (tree : SpecTree) (n : Written) (t : TermTree) → TermFine tree t → ShapeFine tree (shape.Times n t)
@@ -220,8 +214,8 @@ fine_times tree n t fine e inside own clean =
     let found = sym (in-Times (kind_finding tree) e inside n t) ∙ clean in
     ap (uses_right tree e inside) (shape-Times tree e n t)
     ∙ ap (λ (g : Gathered). list_all is_right (g.uses inside)) (gathered-Times (world_of_tree tree) (domains_of tree e) n.number (term_of tree t e))
-    ∙ and_from (is_right (in_role part (kind_of tree e t))) (uses_right tree e inside (term_of tree t e))
-    (one_right (out-TermTree t).place (in_role part (kind_of tree e t)) (role_right tree t e role.Factor inside found)) (fine e role.Factor inside found)
+    ∙ and_from (is_right (required part (kind_of tree e t))) (uses_right tree e inside (term_of tree t e))
+    (one_right (out-TermTree t).place (required part (kind_of tree e t)) (role_right tree t e role.Factor inside found)) (fine e role.Factor inside found)
 
 -- by induction over terms, their shapes and the parts of sums
 all_terms : (tree : SpecTree) (t : TermTree) → TermFine tree t

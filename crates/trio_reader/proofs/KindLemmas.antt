@@ -9,7 +9,7 @@ use Rattle.trio_types.specs.declared.spec.Item.{Item}
 use Rattle.trio_types.specs.declared.formula.Term.{Term}
 use Rattle.trio_types.specs.declared.formula.Term.TheVariants as term
 use Rattle.trio_types.specs.World.{World, integers}
-use Rattle.trio_types.specs.Kinds.{Kind, Use, Gathered, no_kind, number, truth_value, word, kind, kind_in, kind_of_constant, is_right, term_uses, in_role, named, argument, of_item, gather_term}
+use Rattle.trio_types.specs.Kinds.{Kind, Use, Gathered, no_kind, number, truth_value, word, kind_of_term, kind_in, kind_of_constant, is_right, term_uses, required, named, argument, of_item, gather_term}
 use Rattle.trio_types.proofs.KindsAt.{gathered-Number, gathered-Value, gathered-Var, gathered-Read, gathered-Sum, gathered-Times}
 use Rattle.trio_reader.specs.declared.kind.TermKind.TheVariants as code
 use Rattle.trio_reader.specs.TermKinds.{seen}
@@ -21,7 +21,7 @@ use Rattle.trio_syntax.specs.declared.tree.TermShape.TheVariants as shape
 use Rattle.trio_syntax.specs.declared.tree.PartTree.{PartTree}
 use Rattle.trio_syntax.specs.declared.tree.SpecTree.{SpecTree}
 use Rattle.trio_scope.specs.declared.walk.Binder.{Binder}
-use Rattle.trio_scope.specs.Gather.{Variable, variables_of}
+use Rattle.trio_scope.specs.Gather.{Variable, variables_from}
 use Rattle.trio_scope.specs.Places.{earlier, least, unless}
 use Rattle.trio_scope.proofs.Least.{earlier-none, earlier-assoc, least_both}
 use Rattle.std.proofs.Math.Logic.{⊎_elim}
@@ -34,26 +34,26 @@ use Rattle.trio_reader.specs.declared.sense.Sense.{Sense}
 use Rattle.trio_reader.specs.Kinds.{placed, wrong_places, kind_of, item_use, name_uses, argument_use}
 
 module _ (w : World) (vs : List ℕ) where
-  pub kind-no_item : (n : ℕ) (args : List Term) → slice_get w.items n ≡ None → kind w vs (term.Read n args) ≡ no_kind
+  pub kind-no_item : (n : ℕ) (args : List Term) → slice_get w.items n ≡ None → kind_of_term w vs (term.Read n args) ≡ no_kind
   kind-no_item n args is = ap (λ (g : Gathered). g.kind) (gathered-Read w vs n args) ∙ rw is refl
 
-  pub kind-item : (n : ℕ) (args : List Term) (item : Item) → slice_get w.items n ≡ Some item → kind w vs (term.Read n args) ≡ kind_in w item.value
+  pub kind-item : (n : ℕ) (args : List Term) (item : Item) → slice_get w.items n ≡ Some item → kind_of_term w vs (term.Read n args) ≡ kind_in w item.value
   kind-item n args item is = ap (λ (g : Gathered). g.kind) (gathered-Read w vs n args) ∙ rw is refl
 
-  pub kind-no_variable : (level : ℕ) → slice_get vs level ≡ None → kind w vs (term.Var level) ≡ no_kind
+  pub kind-no_variable : (level : ℕ) → slice_get vs level ≡ None → kind_of_term w vs (term.Var level) ≡ no_kind
   kind-no_variable level is = ap (λ (g : Gathered). g.kind) (gathered-Var w vs level) ∙ rw is refl
 
-  pub kind-variable : (level d : ℕ) → slice_get vs level ≡ Some d → kind w vs (term.Var level) ≡ kind_in w d
+  pub kind-variable : (level d : ℕ) → slice_get vs level ≡ Some d → kind_of_term w vs (term.Var level) ≡ kind_in w d
   kind-variable level d is = ap (λ (g : Gathered). g.kind) (gathered-Var w vs level) ∙ rw is refl
 
-  pub kind-word : (d v : ℕ) → kind w vs (term.Value d v) ≡ kind_of_constant w d v
+  pub kind-word : (d v : ℕ) → kind_of_term w vs (term.Value d v) ≡ kind_of_constant w d v
   kind-word d v = ap (λ (g : Gathered). g.kind) (gathered-Value w vs d v)
 
 -- the kind of a read does not depend on what stands round it
-pub kind-read : (w : World) (vs us : List ℕ) (n : ℕ) (args more : List Term) → kind w vs (term.Read n args) ≡ kind w us (term.Read n more)
+pub kind-read : (w : World) (vs us : List ℕ) (n : ℕ) (args more : List Term) → kind_of_term w vs (term.Read n args) ≡ kind_of_term w us (term.Read n more)
 kind-read w vs us n args more = by (slice_get w.items n) refl
   where
-    by : (o : Option Item) → slice_get w.items n ≡ o → kind w vs (term.Read n args) ≡ kind w us (term.Read n more)
+    by : (o : Option Item) → slice_get w.items n ≡ o → kind_of_term w vs (term.Read n args) ≡ kind_of_term w us (term.Read n more)
     by None is = kind-no_item w vs n args is ∙ sym (kind-no_item w us n more is)
     by (Some item) is = kind-item w vs n args item is ∙ sym (kind-item w us n more item is)
 
@@ -86,7 +86,7 @@ constant-words w d v domain words is kinds = rw (← is, kinds, length-integers)
 
 -- the domain of the variable at a level
 pub domain-at : (tree : SpecTree) (around : List Binder) (level : ℕ) →
-    slice_get (domains_of tree (variables_of around)) level ≡ option_map (λ (b : Binder). domain_of tree b.domain.now) (slice_get around level)
+    slice_get (domains_of tree (variables_from around)) level ≡ option_map (λ (b : Binder). domain_of tree b.domain.now) (slice_get around level)
 domain-at tree around level =
     ap (λ ds. slice_get ds level) (map-map (λ (v : Variable). domain_of tree v.domain) (λ (b : Binder). record { name = b.variable.now.name; domain = b.domain.now }) around)
     ∙ slice_get-map (λ (b : Binder). domain_of tree b.domain.now) around level
@@ -103,46 +103,46 @@ wrong-one p u = append-nil (unless (is_right u) p)
 
 -- the kind of a term, by its shape
 module _ (tree : SpecTree) (e : List Variable) (t : TermTree) where
-  pub kind-shape : {s : TermShape} → (out-TermTree t).shape ≡ s → kind_of tree e t ≡ kind (world_of_tree tree) (domains_of tree e) (shape_of tree s e)
-  kind-shape is = ap (kind (world_of_tree tree) (domains_of tree e)) (term-shape tree t e ∙ ap (λ s. shape_of tree s e) is)
+  pub kind-shape : {s : TermShape} → (out-TermTree t).shape ≡ s → kind_of tree e t ≡ kind_of_term (world_of_tree tree) (domains_of tree e) (shape_of tree s e)
+  kind-shape is = ap (kind_of_term (world_of_tree tree) (domains_of tree e)) (term-shape tree t e ∙ ap (λ s. shape_of tree s e) is)
 
   pub kind-Number : (n : Written) → (out-TermTree t).shape ≡ shape.Number n → number ≡ kind_of tree e t
-  kind-Number n is = sym (kind-shape is ∙ ap (kind (world_of_tree tree) (domains_of tree e)) (shape-Number tree e n)
+  kind-Number n is = sym (kind-shape is ∙ ap (kind_of_term (world_of_tree tree) (domains_of tree e)) (shape-Number tree e n)
       ∙ ap (λ (g : Gathered). g.kind) (gathered-Number (world_of_tree tree) (domains_of tree e) n.number))
 
   pub kind-Truth : (b : Bool) → (out-TermTree t).shape ≡ shape.Truth b → truth_value ≡ kind_of tree e t
-  kind-Truth b is = sym (kind-shape is ∙ ap (kind (world_of_tree tree) (domains_of tree e)) (shape-Truth tree e b)
+  kind-Truth b is = sym (kind-shape is ∙ ap (kind_of_term (world_of_tree tree) (domains_of tree e)) (shape-Truth tree e b)
       ∙ kind-word (world_of_tree tree) (domains_of tree e) 0 (if b then 1 else 0) ∙ truth-constant tree b)
 
   pub kind-Named : (m : Mention) → (out-TermTree t).shape ≡ shape.Named m →
-      kind_of tree e t ≡ kind (world_of_tree tree) (domains_of tree e) (sense_term (sense_of tree e m.name))
-  kind-Named m is = kind-shape is ∙ ap (kind (world_of_tree tree) (domains_of tree e)) (shape-Named tree e m)
+      kind_of tree e t ≡ kind_of_term (world_of_tree tree) (domains_of tree e) (sense_term (sense_of tree e m.name))
+  kind-Named m is = kind-shape is ∙ ap (kind_of_term (world_of_tree tree) (domains_of tree e)) (shape-Named tree e m)
 
   pub kind-Call : (m : Mention) (args : List TermTree) → (out-TermTree t).shape ≡ shape.Call m args →
-      kind_of tree e t ≡ kind (world_of_tree tree) [] (term.Read (sense_item (item_count tree) (sense_of tree e m.name)) [])
-  kind-Call m args is = kind-shape is ∙ ap (kind (world_of_tree tree) (domains_of tree e)) (shape-Call tree e m args)
+      kind_of tree e t ≡ kind_of_term (world_of_tree tree) [] (term.Read (sense_item (item_count tree) (sense_of tree e m.name)) [])
+  kind-Call m args is = kind-shape is ∙ ap (kind_of_term (world_of_tree tree) (domains_of tree e)) (shape-Call tree e m args)
       ∙ kind-read (world_of_tree tree) (domains_of tree e) [] (sense_item (item_count tree) (sense_of tree e m.name)) (map (λ a. term_of tree a e) args) []
 
   pub kind-Sum : (parts : List PartTree) → (out-TermTree t).shape ≡ shape.Sum parts → number ≡ kind_of tree e t
-  kind-Sum parts is = sym (kind-shape is ∙ ap (kind (world_of_tree tree) (domains_of tree e)) (shape-Sum tree e parts)
+  kind-Sum parts is = sym (kind-shape is ∙ ap (kind_of_term (world_of_tree tree) (domains_of tree e)) (shape-Sum tree e parts)
       ∙ ap (λ (g : Gathered). g.kind) (gathered-Sum (world_of_tree tree) (domains_of tree e) (map (λ p. part_from tree p e) parts)))
 
   pub kind-Times : (n : Written) (factor : TermTree) → (out-TermTree t).shape ≡ shape.Times n factor → number ≡ kind_of tree e t
-  kind-Times n factor is = sym (kind-shape is ∙ ap (kind (world_of_tree tree) (domains_of tree e)) (shape-Times tree e n factor)
+  kind-Times n factor is = sym (kind-shape is ∙ ap (kind_of_term (world_of_tree tree) (domains_of tree e)) (shape-Times tree e n factor)
       ∙ ap (λ (g : Gathered). g.kind) (gathered-Times (world_of_tree tree) (domains_of tree e) n.number (term_of tree factor e)))
 
 -- what names alone use
 module _ (w : World) (vs : List ℕ) (inside : Bool) where
-  pub uses-Var : (level : ℕ) → term_uses w vs inside (term.Var level) ≡ in_role named (kind w vs (term.Var level)) ∷ []
+  pub uses-Var : (level : ℕ) → term_uses w vs inside (term.Var level) ≡ required named (kind_of_term w vs (term.Var level)) ∷ []
   uses-Var level =
       ap (λ (g : Gathered). g.uses inside) (gathered-Var w vs level)
-      ∙ sym (ap (λ (g : Gathered). in_role named g.kind ∷ []) (gathered-Var w vs level))
+      ∙ sym (ap (λ (g : Gathered). required named g.kind ∷ []) (gathered-Var w vs level))
 
-  pub uses-Value : (d v : ℕ) → term_uses w vs inside (term.Value d v) ≡ in_role named (kind_of_constant w d v) ∷ []
+  pub uses-Value : (d v : ℕ) → term_uses w vs inside (term.Value d v) ≡ required named (kind_of_constant w d v) ∷ []
   uses-Value d v = ap (λ (g : Gathered). g.uses inside) (gathered-Value w vs d v)
 
 no_arguments : (w : World) (ds : List ℕ) →
-    map (λ (p : ℕ × Gathered). in_role (argument (kind_in w p.0)) p.1.kind) (zip ds []) ++ flat_map (λ (g : Gathered). g.uses true) [] ≡ []
+    map (λ (p : ℕ × Gathered). required (argument (kind_in w p.0)) p.1.kind) (zip ds []) ++ flat_map (λ (g : Gathered). g.uses true) [] ≡ []
 no_arguments w [] = refl
 no_arguments w (d ∷ ds) = refl
 

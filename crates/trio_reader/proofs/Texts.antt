@@ -46,16 +46,16 @@ data Told (text : List ℕ) (f : SpecFault) : Type 0 where
   syntax_ : (place : ℕ) (tokens : List Token) → f ≡ fault.Syntax place → IsShallow text tokens → IsSyntaxFault IsSpec (lexemes_of text tokens) place → Told text f
   tree_ : (tree : SpecTree) → IsTreeText text tree → tree_fault tree ≡ Some f → Told text f
 
-told : (text : List ℕ) (f : SpecFault) → f ≢ fault.Memory → HasFault text f → Told text f
-told text (fault.Lex place) some has = lex place refl has
-told text (fault.Deep place) some has = deep place has.0 refl has.1 has.2
-told text (fault.Syntax place) some has = syntax_ place has.0 refl has.1 has.2
-told text (fault.Unknown place) some has = tree_ has.0 has.1 has.2
-told text (fault.Twice place) some has = tree_ has.0 has.1 has.2
-told text (fault.Kind place) some has = tree_ has.0 has.1 has.2
-told text (fault.Range place) some has = tree_ has.0 has.1 has.2
-told text (fault.Limit which count) some has = tree_ has.0 has.1 has.2
-told text fault.Memory some has = absurd (some refl)
+told : (text : List ℕ) (f : SpecFault) → HasFault text f → Told text f
+told text (fault.Lex place) has = lex place refl has
+told text (fault.Deep place) has = deep place has.0 refl has.1 has.2
+told text (fault.Syntax place) has = syntax_ place has.0 refl has.1 has.2
+told text (fault.Unknown place) has = tree_ has.0 has.1 has.2
+told text (fault.Twice place) has = tree_ has.0 has.1 has.2
+told text (fault.Kind place) has = tree_ has.0 has.1 has.2
+told text (fault.Range place) has = tree_ has.0 has.1 has.2
+told text (fault.Limit which count) has = tree_ has.0 has.1 has.2
+told text fault.Memory has = absurd has
 
 -- too deep a text is no shallow one
 deep_shallow : (text : List ℕ) (place : ℕ) (a b : List Token) → IsTokens text a → first_deep (lexemes_of text a) ≡ Some place → IsShallow text b → ⊥
@@ -75,9 +75,9 @@ no_tree text f tree (deep place tokens is lexed has) read = absurd (deep_shallow
 no_tree text f tree (syntax_ place tokens is s has) read = absurd (syntax_tree text place tokens tree s has read)
 no_tree text f tree (tree_ other reading has) read = ap tree_fault (one_tree_text text tree other read reading) ∙ has
 
-pub no_specification : (text : List ℕ) (f : SpecFault) (spec : Spec) → f ≢ fault.Memory → HasFault text f → IsSpecText text spec → ⊥
-no_specification text f spec some has x =
-    none-some f (sym x.answer.sound ∙ no_tree text f x.tree (told text f some has) x.read)
+pub no_specification : (text : List ℕ) (f : SpecFault) (spec : Spec) → HasFault text f → IsSpecText text spec → ⊥
+no_specification text f spec has x =
+    none-some f (sym x.answer.sound ∙ no_tree text f x.tree (told text f has) x.read)
 
 some_same : {A : Type 0} (a b : A) → Some a ≡ Some b → a ≡ b
 some_same a b is = cc
@@ -98,5 +98,5 @@ one text f g (syntax_ j a is s has) (syntax_ k b js r hat) =
 one text f g (tree_ tree read has) later = some_same f g (sym has ∙ no_tree text g tree later read)
 one text f g first (tree_ tree read has) = some_same f g (sym (no_tree text f tree first read) ∙ has)
 
-pub one_text_fault : (text : List ℕ) (f g : SpecFault) → f ≢ fault.Memory → g ≢ fault.Memory → HasFault text f → HasFault text g → f ≡ g
-one_text_fault text f g some more has hat = one text f g (told text f some has) (told text g more hat)
+pub one_text_fault : (text : List ℕ) (f g : SpecFault) → HasFault text f → HasFault text g → f ≡ g
+one_text_fault text f g has hat = one text f g (told text f has) (told text g hat)

@@ -66,10 +66,11 @@ HasFault text (fault.Lex place) = IsLexFault text place
 HasFault text (fault.Deep place) = (tokens : List Token) × IsTokens text tokens × (first_deep (lexemes_of text tokens) ≡ Some place)
 HasFault text (fault.Syntax place) =
     (tokens : List Token) × IsShallow text tokens × IsSyntaxFault IsSpec (lexemes_of text tokens) place
-HasFault text fault.Memory = Unit {0}
+HasFault text fault.Memory = ⊥
 HasFault text f = (tree : SpecTree) × IsTreeText text tree × (tree_fault tree ≡ Some f)
 
--- the text's specification, or its first fault
+-- the text's specification, its first fault, or want of memory
 abbrev pub IsAnswer : List ℕ → Result Spec SpecFault → Type 0
 IsAnswer text (Ok spec) = IsSpecText text spec
+IsAnswer text (Err fault.Memory) = Unit {0}
 IsAnswer text (Err f) = HasFault text f

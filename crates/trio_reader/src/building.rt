@@ -2,7 +2,7 @@
 
 ghost use Rattle.std.specs.Prelude.{◌≡◌, map, IfOk, OnOk};
 ghost use Rattle.std.specs.Option.{option_map};
-ghost use Rattle.trio_scope.specs.Gather.{variables_of};
+ghost use Rattle.trio_scope.specs.Gather.{variables_from};
 ghost use Rattle.trio_reader.specs.Erasure.{sense_term, quantified_from, part_from, claims_from};
 ghost use Rattle.trio_reader.specs.Erasure as spec;
 
@@ -54,7 +54,7 @@ fn formula_of<'a>(
     around: &mut Vec<Binder<'a>>,
     formula: &'a FormulaTree,
 ) -> Result<Formula, AllocError>
-    ensures made { IfOk result (λ made. made ≡ spec.formula_of scope.now.tree.now formula.now (variables_of around.old.items)) }
+    ensures made { IfOk result (λ made. made ≡ spec.formula_of scope.now.tree.now formula.now (variables_from around.old.items)) }
     ensures kept { OnOk result (around.new.items ≡ around.old.items) }
 {
     match formula {
@@ -110,7 +110,7 @@ fn boxed_of<'a>(
     around: &mut Vec<Binder<'a>>,
     formula: &'a FormulaTree,
 ) -> Result<Boxed<Formula>, AllocError>
-    ensures made { IfOk result (λ made. made ≡ spec.formula_of scope.now.tree.now formula.now (variables_of around.old.items)) }
+    ensures made { IfOk result (λ made. made ≡ spec.formula_of scope.now.tree.now formula.now (variables_from around.old.items)) }
     ensures kept { OnOk result (around.new.items ≡ around.old.items) }
 {
     Boxed::new(alloc, formula_of(alloc, scope, around, formula)?)
@@ -123,7 +123,7 @@ fn formulas_of<'a>(
     around: &mut Vec<Binder<'a>>,
     formulas: &'a [FormulaTree],
 ) -> Result<Formulas, AllocError>
-    ensures made { IfOk result (λ made. made ≡ map (λ f. spec.formula_of scope.now.tree.now f (variables_of around.old.items)) formulas.now) }
+    ensures made { IfOk result (λ made. made ≡ map (λ f. spec.formula_of scope.now.tree.now f (variables_from around.old.items)) formulas.now) }
     ensures kept { OnOk result (around.new.items ≡ around.old.items) }
 {
     let mut made = Vec::new(alloc);
@@ -142,7 +142,7 @@ fn quantified_of<'a>(
     binder: Binder<'a>,
     body: &'a FormulaTree,
 ) -> Result<Formula, AllocError>
-    ensures made { IfOk result (λ made. made ≡ quantified_from scope.now.tree.now (variables_of around.old.items) quantifier binder.entry.variable.now binder.entry.domain.now (spec.formula_of scope.now.tree.now body.now)) }
+    ensures made { IfOk result (λ made. made ≡ quantified_from scope.now.tree.now (variables_from around.old.items) quantifier binder.entry.variable.now binder.entry.domain.now (spec.formula_of scope.now.tree.now body.now)) }
     ensures kept { OnOk result (around.new.items ≡ around.old.items) }
 {
     let name = binder.variable.name.copy(alloc)?;
@@ -163,7 +163,7 @@ fn term_of(
     around: &[Binder<'_>],
     term: &TermTree,
 ) -> Result<Term, AllocError>
-    ensures { IfOk result (λ made. made ≡ spec.term_of scope.now.tree.now term.now (variables_of around.now)) }
+    ensures { IfOk result (λ made. made ≡ spec.term_of scope.now.tree.now term.now (variables_from around.now)) }
 {
     shape_of(alloc, scope, around, &term.shape)
 }
@@ -175,7 +175,7 @@ fn shape_of(
     around: &[Binder<'_>],
     shape: &TermShape,
 ) -> Result<Term, AllocError>
-    ensures { IfOk result (λ made. made ≡ spec.shape_of scope.now.tree.now shape.now (variables_of around.now)) }
+    ensures { IfOk result (λ made. made ≡ spec.shape_of scope.now.tree.now shape.now (variables_from around.now)) }
 {
     match shape {
         TermShape::Number(written) => Ok(Term::Number(written.number)),
@@ -217,7 +217,7 @@ fn terms_of(
     around: &[Binder<'_>],
     terms: &[TermTree],
 ) -> Result<Terms, AllocError>
-    ensures { IfOk result (λ made. made ≡ map (λ t. spec.term_of scope.now.tree.now t (variables_of around.now)) terms.now) }
+    ensures { IfOk result (λ made. made ≡ map (λ t. spec.term_of scope.now.tree.now t (variables_from around.now)) terms.now) }
 {
     let mut made = Vec::new(alloc);
     for term in terms {
@@ -233,7 +233,7 @@ fn parts_of(
     around: &[Binder<'_>],
     parts: &[PartTree],
 ) -> Result<SignedTerms, AllocError>
-    ensures { IfOk result (λ made. made ≡ map (λ p. part_from scope.now.tree.now p (variables_of around.now)) parts.now) }
+    ensures { IfOk result (λ made. made ≡ map (λ p. part_from scope.now.tree.now p (variables_from around.now)) parts.now) }
 {
     let mut made = Vec::new(alloc);
     for part in parts {

@@ -17,7 +17,7 @@ pub enum TermKind {
 
 impl TermKind {
     ghost use Rattle.std.specs.Prelude.{◌≡◌};
-    ghost use Rattle.trio_types.specs.Kinds.{has_kind, same_kind, fits_role, alone, part, argument};
+    ghost use Rattle.trio_types.specs.Kinds.{has_kind, same_kind, meets_requirement, alone, part, argument};
     ghost use Rattle.trio_types.specs.Kinds as spec;
     ghost use Rattle.trio_reader.specs.TermKinds.{seen};
 
@@ -43,7 +43,7 @@ impl TermKind {
 
     /// Whether a term of this kind may be a formula alone.
     pub fn may_stand_alone(self) -> bool
-        ensures { result ≡ fits_role alone (seen self) }
+        ensures { result ≡ meets_requirement alone (seen self) }
     {
         matches!(self, TermKind::Unkinded | TermKind::Truth)
     }
@@ -57,7 +57,7 @@ impl TermKind {
 
     /// Whether an argument of this kind suits a domain with values of the other.
     pub fn suits(self, wanted: TermKind) -> bool
-        ensures { result ≡ fits_role (argument (seen wanted)) (seen self) }
+        ensures { result ≡ meets_requirement (argument (seen wanted)) (seen self) }
     {
         !(wanted.is_kind() && self.is_kind()) || wanted.is_same(self)
     }

@@ -3,10 +3,10 @@
 ghost use Rattle.std.specs.Prelude.{◌≡◌, [], map, zip, nat_lt, if◌then◌else◌, IfOk};
 ghost use Rattle.std.specs.List.{flat_map};
 ghost use Rattle.trio_syntax.specs.declared.tree.TermShape.{out-TermShape};
-ghost use Rattle.trio_types.specs.Kinds.{kind, is_right};
+ghost use Rattle.trio_types.specs.Kinds.{kind_of_term, is_right};
 ghost use Rattle.trio_types.specs.Kinds as types;
 ghost use Rattle.trio_scope.specs.Places.{least};
-ghost use Rattle.trio_scope.specs.Gather.{variables_of};
+ghost use Rattle.trio_scope.specs.Gather.{variables_from};
 ghost use Rattle.trio_scope.specs.Scope.{refs_of};
 ghost use Rattle.trio_reader.specs.TermKinds.{seen};
 ghost use Rattle.trio_reader.specs.declared.sense.Sense.TheVariants as sense;
@@ -93,7 +93,7 @@ fn kind_in(world: &World<'_>, domain: u32) -> TermKind
 
 /// The kind of the values of the item of this number.
 fn kind_of_item(world: &World<'_>, item: u32) -> TermKind
-    ensures { seen result ≡ kind (world_of_tree world.now.scope.now.tree.now) [] (sense_term (sense.Item item)) }
+    ensures { seen result ≡ kind_of_term (world_of_tree world.now.scope.now.tree.now) [] (sense_term (sense.Item item)) }
 {
     match element(world.items.as_slice(), item as usize) {
         None => TermKind::Unkinded,
@@ -128,7 +128,7 @@ fn kind_below(index: u32, size: usize, kind: TermKind) -> TermKind
 
 /// The kind of a variable.
 fn kind_of_variable(world: &World<'_>, around: &[Binder<'_>], level: usize) -> TermKind
-    ensures { seen result ≡ kind (world_of_tree world.now.scope.now.tree.now) (domains_of world.now.scope.now.tree.now (variables_of around.now)) (sense_term (sense.Variable level)) }
+    ensures { seen result ≡ kind_of_term (world_of_tree world.now.scope.now.tree.now) (domains_of world.now.scope.now.tree.now (variables_from around.now)) (sense_term (sense.Variable level)) }
 {
     match element(around, level) {
         None => TermKind::Unkinded,
@@ -138,7 +138,7 @@ fn kind_of_variable(world: &World<'_>, around: &[Binder<'_>], level: usize) -> T
 
 /// The kind of what a name stands for.
 fn kind_of_sense(world: &World<'_>, around: &[Binder<'_>], sense: Sense) -> TermKind
-    ensures { seen result ≡ kind (world_of_tree world.now.scope.now.tree.now) (domains_of world.now.scope.now.tree.now (variables_of around.now)) (sense_term sense) }
+    ensures { seen result ≡ kind_of_term (world_of_tree world.now.scope.now.tree.now) (domains_of world.now.scope.now.tree.now (variables_from around.now)) (sense_term sense) }
 {
     match sense {
         Sense::Variable(level) => kind_of_variable(world, around, level),
@@ -149,7 +149,7 @@ fn kind_of_sense(world: &World<'_>, around: &[Binder<'_>], sense: Sense) -> Term
 
 /// The kind of a term.
 fn kind_of(world: &World<'_>, around: &[Binder<'_>], term: &TermTree) -> TermKind
-    ensures { seen result ≡ spec.kind_of world.now.scope.now.tree.now (variables_of around.now) term.now }
+    ensures { seen result ≡ spec.kind_of world.now.scope.now.tree.now (variables_from around.now) term.now }
 {
     match &term.shape {
         TermShape::Number(_) => TermKind::Number,
@@ -183,7 +183,7 @@ fn first_in_name(
     inside: bool,
     mention: &Mention,
 ) -> Option<usize>
-    ensures { result ≡ least (wrong_places (name_uses world.now.scope.now.tree.now (variables_of around.now) inside mention.now)) }
+    ensures { result ≡ least (wrong_places (name_uses world.now.scope.now.tree.now (variables_from around.now) inside mention.now)) }
 {
     match sense_of(world.scope, around, &mention.name) {
         Sense::Variable(level) => unless(
@@ -206,7 +206,7 @@ fn first_in_read(
     item: u32,
     arguments: &[TermTree],
 ) -> Option<usize>
-    ensures { result ≡ least (wrong_places (read_uses world.now.scope.now.tree.now (variables_of around.now) inside place item arguments.now)) }
+    ensures { result ≡ least (wrong_places (read_uses world.now.scope.now.tree.now (variables_from around.now) inside place item arguments.now)) }
 {
     let own = unless(is_right_read(world, inside, item, arguments.len()), place);
     match element(world.items.as_slice(), item as usize) {
@@ -224,7 +224,7 @@ fn first_in_arguments(
     domains: &[u32],
     arguments: &[TermTree],
 ) -> Option<usize>
-    ensures { result ≡ least (wrong_places (map (argument_use world.now.scope.now.tree.now (variables_of around.now)) (zip domains.now arguments.now))) }
+    ensures { result ≡ least (wrong_places (map (argument_use world.now.scope.now.tree.now (variables_from around.now)) (zip domains.now arguments.now))) }
 {
     let mut first = None;
     for (domain, argument) in domains.iter().zip(arguments) {
@@ -254,7 +254,7 @@ fn first_in_shape(
     inside: bool,
     shape: &TermShape,
 ) -> Option<usize>
-    ensures { result ≡ least (wrong_places (shape_uses world.now.scope.now.tree.now (variables_of around.now) inside (out-TermShape shape.now))) }
+    ensures { result ≡ least (wrong_places (shape_uses world.now.scope.now.tree.now (variables_from around.now) inside (out-TermShape shape.now))) }
 {
     match shape {
         TermShape::Named(mention) => first_in_name(world, around, inside, mention),

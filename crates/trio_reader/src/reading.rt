@@ -1,8 +1,8 @@
 //! Reads a text as its specification.
 
-ghost use Rattle.std.specs.Prelude.{◌≡◌, true, MatchResult};
+ghost use Rattle.std.specs.Prelude.{◌≡◌, true, Err, MatchResult};
 ghost use Rattle.trio_syntax.specs.Shape.{is_formed};
-ghost use Rattle.trio_reader.specs.Reading.{IsTreeText, IsTreeFault, IsSpecOf, IsAnswer, HasFault};
+ghost use Rattle.trio_reader.specs.Reading.{IsTreeText, IsTreeFault, IsSpecOf, IsAnswer};
 
 use crate::building::claims_of;
 use crate::fault::SpecFault;
@@ -27,7 +27,7 @@ pub fn read_spec(alloc: Global, text: &[u8]) -> Result<Spec, SpecFault>
 
 /// The tree that a text is by the grammar alone, or the first fault that the grammar finds.
 fn tree_of(alloc: Global, text: &[u8]) -> Result<SpecTree, SpecFault>
-    ensures { MatchResult result (IsTreeText text.now) (HasFault text.now) }
+    ensures { MatchResult result (IsTreeText text.now) (λ fault. IsAnswer text.now (Err fault)) }
 {
     let tokens = match tokens(alloc, text) {
         Ok(tokens) => tokens,

@@ -1,7 +1,7 @@
 //! What names stand for in terms and where domains are named.
 
 ghost use Rattle.std.specs.Prelude.{◌≡◌};
-ghost use Rattle.trio_scope.specs.Gather.{variables_of};
+ghost use Rattle.trio_scope.specs.Gather.{variables_from};
 ghost use Rattle.trio_reader.specs.Erasure as spec;
 
 use trio_base::Name;
@@ -33,7 +33,7 @@ impl Sense {
 
 /// What a name stands for in a term, under these variables.
 pub fn sense_of(scope: &Scope<'_>, around: &[Binder<'_>], name: &Name) -> Sense
-    ensures { result ≡ spec.sense_of scope.now.tree.now (variables_of around.now) name.now }
+    ensures { result ≡ spec.sense_of scope.now.tree.now (variables_from around.now) name.now }
 {
     if let Some(level) = level_of(around, name) {
         return Sense::Variable(level);

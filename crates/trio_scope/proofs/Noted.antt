@@ -13,7 +13,7 @@ use Rattle.trio_scope.specs.declared.meaning.Declared.{Declared}
 use Rattle.trio_scope.specs.declared.names.Names.{Names}
 use Rattle.trio_scope.specs.Places.{earlier, least, unless}
 use Rattle.trio_scope.specs.Names.{Declaration, declaration, declared_of, is_declared, repeated_behind}
-use Rattle.trio_scope.specs.Table.{declared_in, Tells}
+use Rattle.trio_scope.specs.Table.{declared_in, HasDeclarations}
 use Rattle.trio_scope.proofs.Least.{earlier-none, least_both}
 
 -- a name keeps its declaration, and has this one where it had none and is the name that is noted
@@ -84,9 +84,9 @@ noted_some None new is = absurd (true≢false is)
 noted_some (Some d) new is = refl
 
 -- the name was declared already
-pub tells_again : (old : Names) (domains items : ℕ) (ds : List Declaration) → Tells old domains items ds → (m : Mention) (stands : Meaning) →
+pub tells_again : (old : Names) (domains items : ℕ) (ds : List Declaration) → HasDeclarations old domains items ds → (m : Mention) (stands : Meaning) →
     true ≡ is_some (declared_in old.first m.name) → (repeated : Option ℕ) → repeated ≡ earlier old.repeated (Some m.place) →
-    Tells (record old { repeated = repeated }) domains items (ds ++ declaration m stands ∷ [])
+    HasDeclarations (record old { repeated = repeated }) domains items (ds ++ declaration m stands ∷ [])
 unfolding noted
 tells_again old domains items ds tells m stands there repeated is = record {
   first = λ name. tells.first name ∙ ⊎_elim
@@ -105,10 +105,10 @@ tells_again old domains items ds tells m stands there repeated is = record {
     d = declaration m stands
 
 -- the name is declared first here
-pub tells_first : (old new : Names) (domains items : ℕ) (ds : List Declaration) → Tells old domains items ds → (m : Mention) (stands : Meaning) →
+pub tells_first : (old new : Names) (domains items : ℕ) (ds : List Declaration) → HasDeclarations old domains items ds → (m : Mention) (stands : Meaning) →
     false ≡ is_some (declared_in old.first m.name) →
     ((name : List ℕ) → declared_in new.first name ≡ update bytes_eq (declared_in old.first) m.name (Some (declaration m stands).declared) name) →
-    new.repeated ≡ old.repeated → new.domains ≡ old.domains → new.items ≡ old.items → Tells new domains items (ds ++ declaration m stands ∷ [])
+    new.repeated ≡ old.repeated → new.domains ≡ old.domains → new.items ≡ old.items → HasDeclarations new domains items (ds ++ declaration m stands ∷ [])
 unfolding noted
 tells_first old new domains items ds tells m stands absent updates repeated same_domains same_items = record {
   first = λ name. updates name ∙ ⊎_elim

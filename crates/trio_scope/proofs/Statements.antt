@@ -8,8 +8,8 @@ use Rattle.trio_syntax.specs.declared.tree.DeclarationTree.{DeclarationTree}
 use Rattle.trio_syntax.specs.declared.tree.DeclarationTree.TheVariants as statement
 use Rattle.trio_scope.specs.declared.meaning.Meaning.TheVariants as meaning
 use Rattle.trio_scope.specs.declared.names.Names.{Names}
-use Rattle.trio_scope.specs.Names.{Declaration, declaration, words_from, words_of, declared_from, domains_in, items_in}
-use Rattle.trio_scope.specs.Table.{declared_in, Tells, Adds, Reads}
+use Rattle.trio_scope.specs.Names.{Declaration, declaration, words_from, declared_words, declared_from, domains_in, items_in}
+use Rattle.trio_scope.specs.Table.{declared_in, HasDeclarations, AddsDeclarations, AddsStatements}
 
 add-zero : (n : ℕ) → n + 0 ≡ n
 add-zero n = omega arith
@@ -42,16 +42,16 @@ declared-append : (domains items : ℕ) (xs ys : List DeclarationTree) → decla
     ≡ declared_from domains items xs ++ declared_from (domains + length (domains_in xs)) (items + length (items_in xs)) ys
 declared-append domains items [] ys = rw (add-zero domains, add-zero items) refl
 declared-append domains items (statement.Domain d ∷ xs) ys =
-    ap (λ ds. declaration d.name (meaning.Domain domains) ∷ words_of domains d.values ++ ds) (declared-append (domains + 1) items xs ys
+    ap (λ ds. declaration d.name (meaning.Domain domains) ∷ declared_words domains d.values ++ ds) (declared-append (domains + 1) items xs ys
     ∙ ap (λ n. declared_from (domains + 1) items xs ++ declared_from n (items + length (items_in xs)) ys) (omega arith))
-    ∙ ap (λ ds. declaration d.name (meaning.Domain domains) ∷ ds) (sym (append_assoc (words_of domains d.values) (declared_from (domains + 1) items xs)
+    ∙ ap (λ ds. declaration d.name (meaning.Domain domains) ∷ ds) (sym (append_assoc (declared_words domains d.values) (declared_from (domains + 1) items xs)
     (declared_from (domains + length (domains_in (statement.Domain d ∷ xs))) (items + length (items_in xs)) ys)))
 declared-append domains items (statement.Item i ∷ xs) ys =
     ap (λ ds. declaration i.name (meaning.Item items) ∷ ds) (declared-append domains (items + 1) xs ys
     ∙ ap (λ n. declared_from domains (items + 1) xs ++ declared_from (domains + length (domains_in xs)) n ys) (omega arith))
 
 -- statements behind others
-pub reads_then : (old middle new : Names) (xs ys : List DeclarationTree) → Reads old middle xs → Reads middle new ys → Reads old new (xs ++ ys)
+pub reads_then : (old middle new : Names) (xs ys : List DeclarationTree) → AddsStatements old middle xs → AddsStatements middle new ys → AddsStatements old new (xs ++ ys)
 reads_then old middle new xs ys first second domains items ds tells =
     let d : ℕ = domains + length (domains_in xs) in
     let i : ℕ = items + length (items_in xs) in
@@ -65,24 +65,24 @@ reads_then old middle new xs ys first second domains items ds tells =
       ← add_assoc items (length (items_in xs)) (length (items_in ys)),
     ) both
 
-pub reads_none : (names : Names) → Reads names names []
+pub reads_none : (names : Names) → AddsStatements names names []
 reads_none names domains items ds tells = rw (add-zero domains, add-zero items, append-nil ds) tells
 
 -- declarations behind others
-pub adds_then : (old middle new : Names) (xs ys : List Declaration) → Adds old middle xs → Adds middle new ys → Adds old new (xs ++ ys)
+pub adds_then : (old middle new : Names) (xs ys : List Declaration) → AddsDeclarations old middle xs → AddsDeclarations middle new ys → AddsDeclarations old new (xs ++ ys)
 adds_then old middle new xs ys first second domains items ds tells =
     rw (← append_assoc ds xs ys) (second domains items (ds ++ xs) (first domains items ds tells))
 
-pub adds_none : (names : Names) → Adds names names []
+pub adds_none : (names : Names) → AddsDeclarations names names []
 adds_none names domains items ds tells = rw (append-nil ds) tells
 
 -- the statement that declares an item
-pub reads_item : (old middle new : Names) (i : ItemTree) → Adds old middle (declaration i.name (meaning.Item old.items) ∷ []) → new.first ≡ middle.first →
+pub reads_item : (old middle new : Names) (i : ItemTree) → AddsDeclarations old middle (declaration i.name (meaning.Item old.items) ∷ []) → new.first ≡ middle.first →
     new.repeated ≡ middle.repeated → new.domains ≡ middle.domains → new.items ≡ middle.items + 1 →
-    Reads old new (statement.Item i ∷ [])
+    AddsStatements old new (statement.Item i ∷ [])
 reads_item old middle new i adds first repeated domains_same items_next domains items ds tells =
-    let after : Tells middle domains items (ds ++ declaration i.name (meaning.Item items) ∷ []) =
-    subst (λ n. Tells middle domains items (ds ++ declaration i.name (meaning.Item n) ∷ [])) tells.items_so_far (adds domains items ds tells) in
+    let after : HasDeclarations middle domains items (ds ++ declaration i.name (meaning.Item items) ∷ []) =
+    subst (λ n. HasDeclarations middle domains items (ds ++ declaration i.name (meaning.Item n) ∷ [])) tells.items_so_far (adds domains items ds tells) in
     record {
       first = λ name. ap (λ m. declared_in m name) first ∙ after.first name;
       repeated = repeated ∙ after.repeated;
@@ -91,17 +91,17 @@ reads_item old middle new i adds first repeated domains_same items_next domains 
     }
 
 -- the statement that declares a domain
-pub reads_domain : (old middle later new : Names) (d : DomainTree) → Adds old middle (declaration d.name (meaning.Domain old.domains) ∷ []) →
-    Adds middle later (words_of middle.domains d.values) → new.first ≡ later.first → new.repeated ≡ later.repeated → new.domains ≡ later.domains + 1 →
-    new.items ≡ later.items → Reads old new (statement.Domain d ∷ [])
+pub reads_domain : (old middle later new : Names) (d : DomainTree) → AddsDeclarations old middle (declaration d.name (meaning.Domain old.domains) ∷ []) →
+    AddsDeclarations middle later (declared_words middle.domains d.values) → new.first ≡ later.first → new.repeated ≡ later.repeated → new.domains ≡ later.domains + 1 →
+    new.items ≡ later.items → AddsStatements old new (statement.Domain d ∷ [])
 reads_domain old middle later new d adds words first repeated domains_next items_same domains items ds tells =
-    let named : Tells middle domains items (ds ++ declaration d.name (meaning.Domain domains) ∷ []) =
-    subst (λ n. Tells middle domains items (ds ++ declaration d.name (meaning.Domain n) ∷ [])) tells.domains_so_far (adds domains items ds tells) in
-    let whole : Tells later domains items ((ds ++ declaration d.name (meaning.Domain domains) ∷ []) ++ words_of domains d.values) =
-    subst (λ n. Tells later domains items ((ds ++ declaration d.name (meaning.Domain domains) ∷ []) ++ words_of n d.values)) named.domains_so_far
+    let named : HasDeclarations middle domains items (ds ++ declaration d.name (meaning.Domain domains) ∷ []) =
+    subst (λ n. HasDeclarations middle domains items (ds ++ declaration d.name (meaning.Domain n) ∷ [])) tells.domains_so_far (adds domains items ds tells) in
+    let whole : HasDeclarations later domains items ((ds ++ declaration d.name (meaning.Domain domains) ∷ []) ++ declared_words domains d.values) =
+    subst (λ n. HasDeclarations later domains items ((ds ++ declaration d.name (meaning.Domain domains) ∷ []) ++ declared_words n d.values)) named.domains_so_far
     (words domains items (ds ++ declaration d.name (meaning.Domain domains) ∷ []) named) in
-    let after : Tells later domains items (ds ++ declared_from domains items (statement.Domain d ∷ [])) =
-    rw (append-nil (words_of domains d.values), ← append_assoc ds (declaration d.name (meaning.Domain domains) ∷ []) (words_of domains d.values)) whole in
+    let after : HasDeclarations later domains items (ds ++ declared_from domains items (statement.Domain d ∷ [])) =
+    rw (append-nil (declared_words domains d.values), ← append_assoc ds (declaration d.name (meaning.Domain domains) ∷ []) (declared_words domains d.values)) whole in
     record {
       first = λ name. ap (λ m. declared_in m name) first ∙ after.first name;
       repeated = repeated ∙ after.repeated;

@@ -23,8 +23,8 @@ pub record Variable : Type 0 where
   pub domain : RefTree
 
 -- the variables as code keeps them, from the outermost on
-abbrev pub variables_of : List Binder → List Variable
-variables_of binders = map (λ b. record { name = b.variable.now.name; domain = b.domain.now }) binders
+abbrev pub variables_from : List Binder → List Variable
+variables_from binders = map (λ b. record { name = b.variable.now.name; domain = b.domain.now }) binders
 
 -- the places that a rule finds, under the variables round them: at an occurrence of a term in its role, inside of a distance or an argument or not;
 -- at a comparison, with the place of its relation; and at a variable with what names its domain

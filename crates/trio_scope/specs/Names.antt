@@ -30,15 +30,15 @@ abbrev pub words_from : ℕ → ℕ → List Mention → List Declaration
 words_from domain index [] = []
 words_from domain index (w ∷ ws) = declaration w (meaning.Word domain index) ∷ words_from domain (index + 1) ws
 
-abbrev pub words_of : ℕ → ValuesTree → List Declaration
-words_of domain (values.Range low high) = []
-words_of domain (values.Words ws) = words_from domain 0 ws
+abbrev pub declared_words : ℕ → ValuesTree → List Declaration
+declared_words domain (values.Range low high) = []
+declared_words domain (values.Words ws) = words_from domain 0 ws
 
 -- what statements declare, behind this many domains and items
 abbrev pub declared_from : ℕ → ℕ → List DeclarationTree → List Declaration
 declared_from domains items [] = []
 declared_from domains items (statement.Domain d ∷ rest) =
-    declaration d.name (meaning.Domain domains) ∷ words_of domains d.values ++ declared_from (domains + 1) items rest
+    declaration d.name (meaning.Domain domains) ∷ declared_words domains d.values ++ declared_from (domains + 1) items rest
 declared_from domains items (statement.Item i ∷ rest) = declaration i.name (meaning.Item items) ∷ declared_from domains (items + 1) rest
 
 -- all declarations, in the order of the text; `bool` is domain 0

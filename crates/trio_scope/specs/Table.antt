@@ -15,22 +15,22 @@ abbrev pub declared_in : {S : Type 0} → HashMap (Bor (List ℕ)) Declared S �
 declared_in names name = get_by (λ k. bytes_eq name k.now) names
 
 -- these are the declarations so far, with this many domains and items among them
-pub record Tells (names : Names) (domains items : ℕ) (ds : List Declaration) : Type 0 where
+pub record HasDeclarations (names : Names) (domains items : ℕ) (ds : List Declaration) : Type 0 where
   pub first : (name : List ℕ) → declared_in names.first name ≡ declared_of ds name
   pub repeated : names.repeated ≡ least (repeated_behind [] ds)
   pub domains_so_far : names.domains ≡ domains
   pub items_so_far : names.items ≡ items
 
 -- these declarations come behind
-abbrev pub Adds : Names → Names → List Declaration → Type 0
-Adds old new more = (domains items : ℕ) (ds : List Declaration) → Tells old domains items ds → Tells new domains items (ds ++ more)
+abbrev pub AddsDeclarations : Names → Names → List Declaration → Type 0
+AddsDeclarations old new more = (domains items : ℕ) (ds : List Declaration) → HasDeclarations old domains items ds → HasDeclarations new domains items (ds ++ more)
 
 -- what these statements declare comes behind
-abbrev pub Reads : Names → Names → List DeclarationTree → Type 0
-Reads old new statements =
-    (domains items : ℕ) (ds : List Declaration) → Tells old domains items ds →
-    Tells new (domains + length (domains_in statements)) (items + length (items_in statements)) (ds ++ declared_from domains items statements)
+abbrev pub AddsStatements : Names → Names → List DeclarationTree → Type 0
+AddsStatements old new statements =
+    (domains items : ℕ) (ds : List Declaration) → HasDeclarations old domains items ds →
+    HasDeclarations new (domains + length (domains_in statements)) (items + length (items_in statements)) (ds ++ declared_from domains items statements)
 
 -- these are all declarations of a tree
 abbrev pub TellsAll : Names → SpecTree → Type 0
-TellsAll names tree = Tells names (1 + length (domains_in tree.declarations)) (0 + length (items_in tree.declarations)) (declarations tree)
+TellsAll names tree = HasDeclarations names (1 + length (domains_in tree.declarations)) (0 + length (items_in tree.declarations)) (declarations tree)

@@ -3,8 +3,8 @@
 ghost use Rattle.std.specs.Prelude.{◌≡◌, ◌+◌, [], ◌∷◌, map, OnOk, IfOk};
 ghost use Rattle.trio_syntax.specs.declared.tree.DeclarationTree.TheVariants.{Domain};
 ghost use Rattle.trio_scope.specs.declared.meaning.Meaning.TheVariants.{Claim};
-ghost use Rattle.trio_scope.specs.Names.{declaration, words_from, words_of, declared_of};
-ghost use Rattle.trio_scope.specs.Table.{Tells, Adds, Reads, declared_in};
+ghost use Rattle.trio_scope.specs.Names.{declaration, words_from, declared_words, declared_of};
+ghost use Rattle.trio_scope.specs.Table.{HasDeclarations, AddsDeclarations, AddsStatements, declared_in};
 
 use crate::meaning::{Declared, Meaning};
 use crate::place::earlier;
@@ -24,7 +24,7 @@ pub struct Names<'a> {
 impl<'a> Names<'a> {
     /// No declaration yet; `bool` is a domain.
     pub fn new(alloc: Global) -> Names<'a>
-        ensures { Tells result 1 0 [] }
+        ensures { HasDeclarations result 1 0 [] }
     {
         Names {
             first: IndexMap::new(alloc),
@@ -43,7 +43,7 @@ impl<'a> Names<'a> {
 
     /// Reads statements that declare domains and items; only want of memory, or more of them than are numbered, refuses them.
     pub fn statements(&mut self, statements: &'a [DeclarationTree]) -> Result<(), AllocError>
-        ensures { OnOk result (Reads self.old self.new statements.now) }
+        ensures { OnOk result (AddsStatements self.old self.new statements.now) }
     {
         for statement in statements {
             self.statement(statement)?;
@@ -53,7 +53,7 @@ impl<'a> Names<'a> {
 
     /// Reads the names of axioms and goals.
     pub fn claims(&mut self, claims: &'a [ClaimTree]) -> Result<(), AllocError>
-        ensures { OnOk result (Adds self.old self.new (map (λ c. declaration c.name Claim) claims.now)) }
+        ensures { OnOk result (AddsDeclarations self.old self.new (map (λ c. declaration c.name Claim) claims.now)) }
     {
         for claim in claims {
             self.note(&claim.name, Meaning::Claim)?;
@@ -62,7 +62,7 @@ impl<'a> Names<'a> {
     }
 
     fn statement(&mut self, statement: &'a DeclarationTree) -> Result<(), AllocError>
-        ensures { OnOk result (Reads self.old self.new (statement.now ∷ [])) }
+        ensures { OnOk result (AddsStatements self.old self.new (statement.now ∷ [])) }
     {
         match statement {
             DeclarationTree::Domain(domain) => self.domain(domain),
@@ -75,7 +75,7 @@ impl<'a> Names<'a> {
     }
 
     fn domain(&mut self, domain: &'a DomainTree) -> Result<(), AllocError>
-        ensures { OnOk result (Reads self.old self.new (Domain domain.now ∷ [])) }
+        ensures { OnOk result (AddsStatements self.old self.new (Domain domain.now ∷ [])) }
     {
         self.note(&domain.name, Meaning::Domain(self.domains))?;
         self.values(self.domains, &domain.values)?;
@@ -84,7 +84,7 @@ impl<'a> Names<'a> {
     }
 
     fn values(&mut self, domain: u32, values: &'a ValuesTree) -> Result<(), AllocError>
-        ensures { OnOk result (Adds self.old self.new (words_of domain values.now)) }
+        ensures { OnOk result (AddsDeclarations self.old self.new (declared_words domain values.now)) }
     {
         match values {
             ValuesTree::Range(_, _) => Ok(()),
@@ -93,7 +93,7 @@ impl<'a> Names<'a> {
     }
 
     fn words(&mut self, domain: u32, words: &'a [Mention]) -> Result<(), AllocError>
-        ensures { OnOk result (Adds self.old self.new (words_from domain 0 words.now)) }
+        ensures { OnOk result (AddsDeclarations self.old self.new (words_from domain 0 words.now)) }
     {
         let mut index = 0;
         for word in words {
@@ -105,7 +105,7 @@ impl<'a> Names<'a> {
 
     /// Declares a name at its token, and finds it repeated where it is declared already.
     fn note(&mut self, mention: &'a Mention, meaning: Meaning) -> Result<(), AllocError>
-        ensures { OnOk result (Adds self.old self.new (declaration mention.now meaning ∷ [])) }
+        ensures { OnOk result (AddsDeclarations self.old self.new (declaration mention.now meaning ∷ [])) }
     {
         let name = mention.name.as_str();
         if self.first.contains_key(name) {

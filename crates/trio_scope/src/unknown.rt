@@ -3,7 +3,7 @@
 ghost use Rattle.std.specs.Prelude.{◌≡◌, [], IfOk};
 ghost use Rattle.std.specs.List.{flat_map};
 ghost use Rattle.trio_scope.specs.Places.{least, unless};
-ghost use Rattle.trio_scope.specs.Gather.{variables_of};
+ghost use Rattle.trio_scope.specs.Gather.{variables_from};
 ghost use Rattle.trio_scope.specs.Names.{declarations, declared_of};
 ghost use Rattle.trio_scope.specs.Scope.{is_known, unknown_among, unknown_finding, names_of_ref, refs_of, unknown_places};
 ghost use Rattle.trio_scope.specs.Scope as spec;
@@ -56,7 +56,7 @@ fn first_in_refs(scope: &Scope<'_>, refs: &[RefTree]) -> Option<usize>
 }
 
 fn first_in_ref(scope: &Scope<'_>, around: &[Binder<'_>], domain: &RefTree) -> Option<usize>
-    ensures { result ≡ least (unknown_among (declarations scope.now.tree.now) (variables_of around.now) (names_of_ref domain.now)) }
+    ensures { result ≡ least (unknown_among (declarations scope.now.tree.now) (variables_from around.now) (names_of_ref domain.now)) }
 {
     match domain {
         RefTree::Bool => None,
@@ -66,7 +66,7 @@ fn first_in_ref(scope: &Scope<'_>, around: &[Binder<'_>], domain: &RefTree) -> O
 
 /// The place of a name, where it is not known.
 fn first_at(scope: &Scope<'_>, around: &[Binder<'_>], mention: &Mention) -> Option<usize>
-    ensures { result ≡ least (unless (is_known (declarations scope.now.tree.now) (variables_of around.now) mention.now) mention.now.place) }
+    ensures { result ≡ least (unless (is_known (declarations scope.now.tree.now) (variables_from around.now) mention.now) mention.now.place) }
 {
     let known = is_variable(around, &mention.name) || stands_before(scope, mention);
     unless(known, mention.place)
@@ -83,7 +83,7 @@ fn stands_before(scope: &Scope<'_>, mention: &Mention) -> bool
 
 /// Whether a name is that of one of these variables.
 pub fn is_variable(around: &[Binder<'_>], name: &Name) -> bool
-    ensures { result ≡ spec.is_variable (variables_of around.now) name.now }
+    ensures { result ≡ spec.is_variable (variables_from around.now) name.now }
 {
     around
         .iter()

@@ -4,7 +4,7 @@ ghost use Rattle.std.specs.Prelude.{◌≡◌, OnOk, IfOk, position};
 ghost use Rattle.std.specs.Str.{bytes_eq};
 ghost use Rattle.std.specs.List.{flat_map};
 ghost use Rattle.trio_scope.specs.Places.{least};
-ghost use Rattle.trio_scope.specs.Gather.{Finding, variables_of, places_in_term, places_in_shape, places_in_arguments, places_in_sum, in_comparison, under, places_in, places_in_claims};
+ghost use Rattle.trio_scope.specs.Gather.{Finding, variables_from, places_in_term, places_in_shape, places_in_arguments, places_in_sum, in_comparison, under, places_in, places_in_claims};
 
 use crate::place::earlier;
 use std::alloc::{AllocError, Global};
@@ -49,7 +49,7 @@ pub trait Rule {
         inside: bool,
         term: &TermTree,
     ) -> Option<usize>
-        ensures { result ≡ least ((finding self.now).term (variables_of around.now) role inside term.now) };
+        ensures { result ≡ least ((finding self.now).term (variables_from around.now) role inside term.now) };
 
     /// The first place at which a comparison breaks it, with the place of its relation; the places of its terms aside.
     fn compared(
@@ -60,11 +60,11 @@ pub trait Rule {
         left: &TermTree,
         right: &TermTree,
     ) -> Option<usize>
-        ensures { result ≡ least ((finding self.now).compared (variables_of around.now) rel place left.now right.now) };
+        ensures { result ≡ least ((finding self.now).compared (variables_from around.now) rel place left.now right.now) };
 
     /// The first place at which a variable's own name or what names its domain breaks it.
     fn variable(&self, around: &[Binder<'_>], variable: &Mention, domain: &RefTree) -> Option<usize>
-        ensures { result ≡ least ((finding self.now).variable (variables_of around.now) variable.now domain.now) };
+        ensures { result ≡ least ((finding self.now).variable (variables_from around.now) variable.now domain.now) };
 }
 
 /// The first place at which a term in this role breaks a rule, under these variables.
@@ -76,7 +76,7 @@ pub fn first_in_term<R: Rule>(
     inside: bool,
     term: &TermTree,
 ) -> Option<usize>
-    ensures { result ≡ least (places_in_term (R.finding rule.now) term.now (variables_of around.now) role inside) }
+    ensures { result ≡ least (places_in_term (R.finding rule.now) term.now (variables_from around.now) role inside) }
 {
     let own = rule.term(around, role, inside, term);
     earlier(own, first_in_shape(rule, around, inside, &term.shape))
@@ -89,7 +89,7 @@ fn first_in_shape<R: Rule>(
     inside: bool,
     shape: &TermShape,
 ) -> Option<usize>
-    ensures { result ≡ least (places_in_shape (R.finding rule.now) shape.now (variables_of around.now) inside) }
+    ensures { result ≡ least (places_in_shape (R.finding rule.now) shape.now (variables_from around.now) inside) }
 {
     match shape {
         TermShape::Number(_) => None,
@@ -109,7 +109,7 @@ fn first_in_arguments<R: Rule>(
     around: &[Binder<'_>],
     arguments: &[TermTree],
 ) -> Option<usize>
-    ensures { result ≡ least (places_in_arguments (R.finding rule.now) (variables_of around.now) arguments.now) }
+    ensures { result ≡ least (places_in_arguments (R.finding rule.now) (variables_from around.now) arguments.now) }
 {
     let mut first = None;
     for argument in arguments {
@@ -128,7 +128,7 @@ fn first_in_sum<R: Rule>(
     inside: bool,
     parts: &[PartTree],
 ) -> Option<usize>
-    ensures { result ≡ least (places_in_sum (R.finding rule.now) (variables_of around.now) inside parts.now) }
+    ensures { result ≡ least (places_in_sum (R.finding rule.now) (variables_from around.now) inside parts.now) }
 {
     let mut first = None;
     for part in parts {
@@ -147,7 +147,7 @@ pub fn first_in<'a, R: Rule>(
     around: &mut Vec<Binder<'a>>,
     formula: &'a FormulaTree,
 ) -> Result<Option<usize>, AllocError>
-    ensures found { IfOk result (λ first. first ≡ least (places_in (R.finding rule.now) formula.now (variables_of around.old.items))) }
+    ensures found { IfOk result (λ first. first ≡ least (places_in (R.finding rule.now) formula.now (variables_from around.old.items))) }
     ensures kept { OnOk result (around.new.items ≡ around.old.items) }
 {
     match formula {
@@ -204,7 +204,7 @@ fn first_compared<R: Rule>(
     left: &TermTree,
     right: &TermTree,
 ) -> Option<usize>
-    ensures { result ≡ least (in_comparison (R.finding rule.now) (variables_of around.now) rel place left.now right.now) }
+    ensures { result ≡ least (in_comparison (R.finding rule.now) (variables_from around.now) rel place left.now right.now) }
 {
     let own = rule.compared(around, rel, place, left, right);
     let left = first_in_term(rule, around, Role::Compared, false, left);
@@ -218,7 +218,7 @@ fn first_among<'a, R: Rule>(
     around: &mut Vec<Binder<'a>>,
     formulas: &'a [FormulaTree],
 ) -> Result<Option<usize>, AllocError>
-    ensures found { IfOk result (λ first. first ≡ least (flat_map (λ f. places_in (R.finding rule.now) f (variables_of around.old.items)) formulas.now)) }
+    ensures found { IfOk result (λ first. first ≡ least (flat_map (λ f. places_in (R.finding rule.now) f (variables_from around.old.items)) formulas.now)) }
     ensures kept { OnOk result (around.new.items ≡ around.old.items) }
 {
     let mut first = None;
@@ -235,7 +235,7 @@ fn first_under<'a, R: Rule>(
     binder: Binder<'a>,
     body: &'a FormulaTree,
 ) -> Result<Option<usize>, AllocError>
-    ensures found { IfOk result (λ first. first ≡ least (under (R.finding rule.now) (variables_of around.old.items) binder.entry.variable.now binder.entry.domain.now (places_in (R.finding rule.now) body.now))) }
+    ensures found { IfOk result (λ first. first ≡ least (under (R.finding rule.now) (variables_from around.old.items) binder.entry.variable.now binder.entry.domain.now (places_in (R.finding rule.now) body.now))) }
     ensures kept { OnOk result (around.new.items ≡ around.old.items) }
 {
     let own = rule.variable(around.as_slice(), binder.variable, binder.domain);
@@ -263,7 +263,7 @@ pub fn first_in_claims<R: Rule>(
 
 /// The level of a variable: how many variables stand around its own.
 pub fn level_of(around: &[Binder<'_>], name: &Name) -> Option<usize>
-    ensures { result ≡ position (λ v. bytes_eq v.name name.now) (variables_of around.now) }
+    ensures { result ≡ position (λ v. bytes_eq v.name name.now) (variables_from around.now) }
 {
     around
         .iter()

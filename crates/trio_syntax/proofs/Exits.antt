@@ -6,9 +6,9 @@ use Rattle.std.specs.Bool.{OnTrue, OnFalse}
 use Rattle.trio_text.specs.declared.token.Symbol.TheVariants as signs
 use Rattle.trio_syntax.specs.declared.refusal.Refusal.{Refusal}
 use Rattle.trio_syntax.specs.declared.refusal.Refusal.TheVariants as refusal
-use Rattle.trio_syntax.specs.Forms.{Form, Sort, Meaning, sign, one}
-use Rattle.trio_syntax.specs.Grammar.{signed, Says}
-use Rattle.trio_syntax.specs.Exact.{Spot, tokens_of, first, Reads, Stuck, ExactAt, ExactNextAt, Fronts, Takes, Stays}
+use Rattle.trio_syntax.specs.Forms.{Form, Sort, SortValue, sign, one}
+use Rattle.trio_syntax.specs.Grammar.{signed, Derives}
+use Rattle.trio_syntax.specs.Exact.{Spot, tokens_of, first, ReadsForm, Stuck, ExactAt, ExactNextAt, Fronts, Takes, Stays}
 use Rattle.trio_syntax.proofs.Says.{says_one, one_is}
 use Rattle.trio_syntax.proofs.Sets.{has_left, has_right}
 use Rattle.trio_syntax.proofs.Left.{Left, left_read, left_stuck, left_first, left_right, reads_one, reads_empty, fronts_taken}
@@ -27,23 +27,23 @@ handed_on g h old middle new (Err refusal.Syntax) left exact = left_stuck left e
 handed_on g h old middle new (Err refusal.Memory) left exact = tt
 
 -- the same reading, with its value said otherwise
-pub reads_as : {A : Type 0} {g : Form A} {old new : Spot} {v w : A} → w ≡ v → Reads g old new v → Reads g old new w
-reads_as {g = g} {old = old} {new = new} same reads = subst (λ a. Reads g old new a) (sym same) reads
+pub reads_as : {A : Type 0} {g : Form A} {old new : Spot} {v w : A} → w ≡ v → ReadsForm g old new v → ReadsForm g old new w
+reads_as {g = g} {old = old} {new = new} same reads = subst (λ a. ReadsForm g old new a) (sym same) reads
 
 -- whether `-` stands in front
-pub reads_signed : {old new : Spot} (minus : Bool) → OnTrue minus (Takes (sign signs.Minus) tt old new) → OnFalse minus (Stays (tokens_of (sign signs.Minus)) old new) → Reads signed old new minus
+pub reads_signed : {old new : Spot} (minus : Bool) → OnTrue minus (Takes (sign signs.Minus) tt old new) → OnFalse minus (Stays (tokens_of (sign signs.Minus)) old new) → ReadsForm signed old new minus
 reads_signed true taken left = left_read (left_first refl (fronts_taken taken)) (reads_one taken)
 reads_signed false taken left = left_read (left_right refl left) reads_empty
 
 -- the same token, which stands for something else
-pub one_reads : {A B : Type 0} {sort : Sort} {value : ℕ → Meaning sort → A} {other : ℕ → Meaning sort → B} {old new : Spot} {v : A} (f : A → B) →
-    ((p : ℕ) (m : Meaning sort) → f (value p m) ≡ other p m) → Reads (one sort value) old new v → Reads (one sort other) old new (f v)
+pub one_reads : {A B : Type 0} {sort : Sort} {value : ℕ → SortValue sort → A} {other : ℕ → SortValue sort → B} {old new : Spot} {v : A} (f : A → B) →
+    ((p : ℕ) (m : SortValue sort) → f (value p m) ≡ other p m) → ReadsForm (one sort value) old new v → ReadsForm (one sort other) old new (f v)
 one_reads {sort = sort} {old = old} {new = new} f same r =
     let d = one_is r.reading in
     let takes : Takes sort d.0 old new = record { whole = r.whole ∙ ap (λ (y : List Lexeme). y ++ new.rest) d.1; place = r.place ∙ ap (λ (y : List Lexeme). old.at + length y) d.1 } in
     reads_as (ap f d.2 ∙ same old.at d.0) (reads_one takes)
 
-pub one_stuck : {A B : Type 0} {sort : Sort} {value : ℕ → Meaning sort → A} {other : ℕ → Meaning sort → B} {old new : Spot} → Stuck (one sort value) old new → Stuck (one sort other) old new
+pub one_stuck : {A B : Type 0} {sort : Sort} {value : ℕ → SortValue sort → A} {other : ℕ → SortValue sort → B} {old new : Spot} → Stuck (one sort value) old new → Stuck (one sort other) old new
 one_stuck {sort = sort} {value = value} {other = other} {old = old} {new = new} r =
     let b = one_is r.begins in
     record {
@@ -52,10 +52,10 @@ one_stuck {sort = sort} {value = value} {other = other} {old = old} {new = new} 
       place = r.place;
       more = r.more;
       value = other old.at b.0;
-      begins = subst (λ (y : List Lexeme). Says (one sort other) old.at y (other old.at b.0)) (sym b.1) (says_one old.at b.0);
+      begins = subst (λ (y : List Lexeme). Derives (one sort other) old.at y (other old.at b.0)) (sym b.1) (says_one old.at b.0);
       dead = λ x w s z d st e al.
           let d' = one_is d in
-          r.dead x (value old.at d'.0) s z (subst (λ (y : List Lexeme). Says (one sort value) old.at y (value old.at d'.0)) (sym d'.1) (says_one old.at d'.0)) st e al;
+          r.dead x (value old.at d'.0) s z (subst (λ (y : List Lexeme). Derives (one sort value) old.at y (value old.at d'.0)) (sym d'.1) (says_one old.at d'.0)) st e al;
     }
 
 -- the exit of a `?`, where a text of the form begins here
@@ -80,7 +80,7 @@ passed_loop g h old middle new (Err refusal.Syntax) e same exact goes_on =
     let both = subst (λ y. ExactNextAt h middle new (Err y)) (sym same) exact in goes_on both.0 both.1
 passed_loop g h old middle new (Err refusal.Memory) e same exact goes_on = tt
 
-pub next_some : {A : Type 0} (g : Form A) (old new : Spot) (o : Option A) (v : A) → o ≡ Some v → ExactNextAt g old new (Ok o) → Fronts (first g) old.rest × Reads g old new v
+pub next_some : {A : Type 0} (g : Form A) (old new : Spot) (o : Option A) (v : A) → o ≡ Some v → ExactNextAt g old new (Ok o) → Fronts (first g) old.rest × ReadsForm g old new v
 next_some g old new o v is exact = subst (λ x. ExactNextAt g old new (Ok x)) is exact
 
 pub next_none : {A : Type 0} (g : Form A) (old new : Spot) (o : Option A) → o ≡ None → ExactNextAt g old new (Ok o) → Stays (first g) old new

@@ -7,11 +7,11 @@ use Rattle.trio_base.specs.declared.operators.FarOp.TheVariants as far
 use Rattle.trio_base.specs.declared.operators.PairOp.TheVariants as pair
 use Rattle.trio_syntax.specs.declared.tree.Quantifier.TheVariants as quant
 use Rattle.trio_syntax.specs.Forms.{Sort, sign, word, number, name, relation, adding, arrow, truth, quantifier, one_operator, far_operator, pair_operator, item_kind, claim_kind}
-use Rattle.trio_syntax.specs.Forms.{Meaning, token_of, Row, formula, disj, conj, unary, primary, term, summand, factor, basic, Form, empty, one, row, seq, either, many}
-use Rattle.trio_syntax.specs.Grammar.{Says, body}
+use Rattle.trio_syntax.specs.Forms.{SortValue, token_of, Nonterminal, formula, disj, conj, unary, primary, term, summand, factor, basic, Form, empty, one, row, seq, either, many}
+use Rattle.trio_syntax.specs.Grammar.{Derives, production}
 use Rattle.trio_syntax.proofs.Says.{says_empty, says_one, says_row, says_seq, says_left, says_right, says_none}
 
-pub some_meaning : (sort : Sort) → Meaning sort
+pub some_meaning : (sort : Sort) → SortValue sort
 some_meaning (sign s) = tt
 some_meaning (word w) = tt
 some_meaning number = 0
@@ -28,9 +28,9 @@ some_meaning item_kind = false
 some_meaning claim_kind = false
 
 abbrev pub Filled : {A : Type 0} → Form A → Type 0
-Filled {A} g = (p : ℕ) → (y : List Lexeme) × (v : A) × Says g p y v
+Filled {A} g = (p : ℕ) → (y : List Lexeme) × (v : A) × Derives g p y v
 
-some_one : {A : Type 0} {sort : Sort} {value : ℕ → Meaning sort → A} → Filled (one sort value)
+some_one : {A : Type 0} {sort : Sort} {value : ℕ → SortValue sort → A} → Filled (one sort value)
 some_one {sort = sort} {value = value} p = (token_of sort (some_meaning sort) ∷ [], value p (some_meaning sort), says_one p (some_meaning sort))
 
 some_seq : {A B C : Type 0} {g : Form B} {h : Form C} {value : ℕ → B → C → A} → Filled g → Filled h → Filled (seq g h value)
@@ -45,7 +45,7 @@ some_left some_g p = let front = some_g p in (front.0, front.1, says_left front.
 some_right : {A : Type 0} {g h : Form A} → Filled h → Filled (either g h)
 some_right some_h p = let front = some_h p in (front.0, front.1, says_right front.2)
 
-some_row : (r : Row) → Filled (body r) → Filled (row r)
+some_row : (r : Nonterminal) → Filled (production r) → Filled (row r)
 some_row r some_body p = let front = some_body p in (front.0, front.1, says_row front.2)
 
 some_empty : {A : Type 0} {v : A} → Filled (empty v)
@@ -75,7 +75,7 @@ some_conj = some_row conj (some_seq some_unary some_many)
 some_disj : Filled (row disj)
 some_disj = some_row disj (some_seq some_conj some_many)
 
-rows : (r : Row) → Filled (row r)
+rows : (r : Nonterminal) → Filled (row r)
 rows formula = some_row formula (some_seq some_disj (some_right some_empty))
 rows disj = some_disj
 rows conj = some_conj

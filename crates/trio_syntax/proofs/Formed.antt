@@ -9,7 +9,7 @@ use Rattle.trio_base.specs.declared.operators.OneOp.{OneOp}
 use Rattle.trio_base.specs.declared.operators.FarOp.{FarOp}
 use Rattle.trio_base.specs.declared.operators.PairOp.{PairOp}
 use Rattle.trio_text.specs.declared.lexeme.Lexeme.{Lexeme}
-use Rattle.trio_text.specs.Lexemes.{names_a_name as names_name}
+use Rattle.trio_text.specs.Lexemes.{names_a_name}
 use Rattle.trio_syntax.specs.declared.tree.Quantifier.{Quantifier}
 use Rattle.trio_syntax.specs.declared.tree.Mention.{Mention}
 use Rattle.trio_syntax.specs.declared.tree.Written.{Written}
@@ -27,15 +27,15 @@ use Rattle.trio_syntax.specs.declared.tree.FormulaTree.TheFolds.{fold-roll-Formu
 use Rattle.trio_text.specs.declared.token.Symbol.TheVariants as signs
 use Rattle.trio_syntax.specs.Reading.{Language}
 use Rattle.trio_syntax.specs.Forms.{Sort, name, relation, adding, arrow}
-use Rattle.trio_syntax.specs.Forms.{Meaning, token_of, Row, formula, disj, conj, unary, primary, term, summand, factor, basic, Tree, Form, empty, one, row, seq, either, many, Many, none, more, Under}
+use Rattle.trio_syntax.specs.Forms.{SortValue, token_of, Nonterminal, formula, disj, conj, unary, primary, term, summand, factor, basic, Tree, Form, empty, one, row, seq, either, many, Many, none, more, Under}
 use Rattle.trio_syntax.specs.declared.tree.ValuesTree.{ValuesTree}
 use Rattle.trio_syntax.specs.declared.tree.ValuesTree.TheVariants as values
 use Rattle.trio_syntax.specs.declared.tree.DeclarationTree.{DeclarationTree}
 use Rattle.trio_syntax.specs.declared.tree.DeclarationTree.TheVariants as declared
 use Rattle.trio_syntax.specs.declared.tree.ClaimTree.{ClaimTree}
 use Rattle.trio_syntax.specs.declared.tree.SpecTree.{SpecTree}
-use Rattle.trio_syntax.specs.Grammar.{a, a_sign, a_name, behind, round, listed, optional, body, rows_within, sum, product, named, compared, and_of, or_of, arrowed, connected, arguments, ref, bound, distant, paired, domain_values, domain, refs, item, claim, declarations, claims, spec, IsSpec}
-use Rattle.trio_syntax.specs.Shape.{names_a_name, some_all, two_all, Part, is_sum, shape_is_formed, part_formed, term_formed, term_is_formed, ref_is_formed, node_is_formed, formula_is_formed, values_are_formed, declaration_is_formed, claim_is_formed, is_formed}
+use Rattle.trio_syntax.specs.Grammar.{a, a_sign, a_name, behind_sign, round, listed, optional, production, rows_within, sum, product, named, compared, and_of, or_of, arrowed, connected, arguments, ref, bound, distant, paired, domain_values, domain, refs, item, claim, declaring, claims, spec, IsSpec}
+use Rattle.trio_syntax.specs.Shape.{mentions_a_name, some_all, two_all, Part, is_sum, shape_is_formed, part_formed, term_formed, term_is_formed, ref_is_formed, node_is_formed, formula_is_formed, values_are_formed, declaration_is_formed, claim_is_formed, is_formed}
 
 -- what the folds are at each variant
 
@@ -61,11 +61,11 @@ truth_at : (b : Bool) → shape_value (s.Truth b) ≡ true
 unfolding shape_value
 truth_at b = ap shape_value (sym (s.rolls-Truth b)) ∙ fold-roll-TermShape Bool Part Bool shape_is_formed part_formed term_formed (shape.Truth b)
 
-named_at : (m : Mention) → shape_value (s.Named m) ≡ names_a_name m
+named_at : (m : Mention) → shape_value (s.Named m) ≡ mentions_a_name m
 unfolding shape_value
 named_at m = ap shape_value (sym (s.rolls-Named m)) ∙ fold-roll-TermShape Bool Part Bool shape_is_formed part_formed term_formed (shape.Named m)
 
-call_at : (m : Mention) (ts : List TermTree) → shape_value (s.Call m ts) ≡ (names_a_name m && some_all (map term_is_formed ts))
+call_at : (m : Mention) (ts : List TermTree) → shape_value (s.Call m ts) ≡ (mentions_a_name m && some_all (map term_is_formed ts))
 unfolding shape_value term_is_formed
 call_at m ts = ap shape_value (sym (s.rolls-Call m ts)) ∙ fold-roll-TermShape Bool Part Bool shape_is_formed part_formed term_formed (shape.Call m ts)
 
@@ -105,7 +105,7 @@ iff_at : (f g : FormulaTree) → formula_is_formed (v.Iff f g) ≡ (formula_is_f
 unfolding formula_is_formed
 iff_at f g = ap formula_is_formed (sym (v.rolls-Iff f g)) ∙ fold-roll-FormulaTree Bool node_is_formed (node.Iff f g)
 
-quantified_at : (q : Quantifier) (m : Mention) (d : RefTree) (f : FormulaTree) → formula_is_formed (v.Quantified q m d f) ≡ (names_a_name m && ref_is_formed d && formula_is_formed f)
+quantified_at : (q : Quantifier) (m : Mention) (d : RefTree) (f : FormulaTree) → formula_is_formed (v.Quantified q m d f) ≡ (mentions_a_name m && ref_is_formed d && formula_is_formed f)
 unfolding formula_is_formed
 quantified_at q m d f = ap formula_is_formed (sym (v.rolls-Quantified q m d f)) ∙ fold-roll-FormulaTree Bool node_is_formed (node.Quantified q m d f)
 
@@ -123,7 +123,7 @@ pair_at op f g = ap formula_is_formed (sym (v.rolls-Pair op f g)) ∙ fold-roll-
 
 -- what holds of the value of a form, by what holds of its parts
 
-Meant : (sort : Sort) → Meaning sort → Type 0
+Meant : (sort : Sort) → SortValue sort → Type 0
 Meant name n = is_name n ≡ true
 Meant sort m = Unit {0}
 
@@ -131,40 +131,40 @@ Each : {A : Type 0} → (A → Type 0) → List A → Type 0
 Each P [] = Unit {0}
 Each P (w ∷ ws) = P w × Each P ws
 
-Holds : {A : Type 0} → ((r : Row) → Tree r → Type 0) → Form A → A → Type 0
+Holds : {A : Type 0} → ((r : Nonterminal) → Tree r → Type 0) → Form A → A → Type 0
 unfolding Meant Each
 Holds rows (empty a) w = w ≡ a
-Holds rows (one sort value) w = (p : ℕ) × (m : Meaning sort) × Meant sort m × (w ≡ value p m)
+Holds rows (one sort value) w = (p : ℕ) × (m : SortValue sort) × Meant sort m × (w ≡ value p m)
 Holds rows (row r) w = rows r w
 Holds {A} rows (seq {B = B} {C = C} g h value) w = (p : ℕ) × (b : B) × (c : C) × Holds rows g b × Holds rows h c × (w ≡ value p b c)
 Holds rows (either g h) w = Holds rows g w ⊎ Holds rows h w
 Holds rows (many g) w = Each (Holds rows g) w
 
-both_named : (x y : List Lexeme) → list_all names_name (x ++ y) ≡ true → (list_all names_name x ≡ true) × (list_all names_name y ≡ true)
-both_named x y named = and_parts (list_all names_name x) (list_all names_name y) (sym (list_all-append names_name x y) ∙ named)
+both_named : (x y : List Lexeme) → list_all names_a_name (x ++ y) ≡ true → (list_all names_a_name x ≡ true) × (list_all names_a_name y ≡ true)
+both_named x y named = and_parts (list_all names_a_name x) (list_all names_a_name y) (sym (list_all-append names_a_name x y) ∙ named)
 
-meant : (sort : Sort) (m : Meaning sort) → list_all names_name (token_of sort m ∷ []) ≡ true → Meant sort m
+meant : (sort : Sort) (m : SortValue sort) → list_all names_a_name (token_of sort m ∷ []) ≡ true → Meant sort m
 unfolding Meant
 meant name n named = (and_parts (is_name n) true named).0
 meant sort m named = tt
 
-many_holds : {A : Type 0} (G : ℕ → Language A) (P : A → Type 0) → ((p : ℕ) (x : List Lexeme) (w : A) → list_all names_name x ≡ true → G p x w → P w) →
-    (p : ℕ) (x : List Lexeme) (ws : List A) → list_all names_name x ≡ true → Many G p x ws → Each P ws
+many_holds : {A : Type 0} (G : ℕ → Language A) (P : A → Type 0) → ((p : ℕ) (x : List Lexeme) (w : A) → list_all names_a_name x ≡ true → G p x w → P w) →
+    (p : ℕ) (x : List Lexeme) (ws : List A) → list_all names_a_name x ≡ true → Many G p x ws → Each P ws
 unfolding Each
 many_holds G P each p x ws named none = tt
 many_holds G P each p x ws named (more {x = y} {y = z} {v = w} {vs = others} d ds) =
     let both = both_named y z named in
     (each p y w both.0 d, many_holds G P each (p + length y) z others both.1 ds)
 
-under_holds : {A : Type 0} (R : (r : Row) → ℕ → Language (Tree r)) (rows : (r : Row) → Tree r → Type 0) →
-    ((r : Row) (p : ℕ) (x : List Lexeme) (w : Tree r) → list_all names_name x ≡ true → R r p x w → rows r w) →
-    (g : Form A) (p : ℕ) (x : List Lexeme) (w : A) → list_all names_name x ≡ true → Under R g p x w → Holds rows g w
+under_holds : {A : Type 0} (R : (r : Nonterminal) → ℕ → Language (Tree r)) (rows : (r : Nonterminal) → Tree r → Type 0) →
+    ((r : Nonterminal) (p : ℕ) (x : List Lexeme) (w : Tree r) → list_all names_a_name x ≡ true → R r p x w → rows r w) →
+    (g : Form A) (p : ℕ) (x : List Lexeme) (w : A) → list_all names_a_name x ≡ true → Under R g p x w → Holds rows g w
 unfolding Under Holds
 under_holds R rows over (empty a) p x w named d = d.1
-under_holds R rows over (one sort value) p x w named d = (p, d.0, meant sort d.0 (subst (λ (y : List Lexeme). list_all names_name y ≡ true) d.1 named), d.2)
+under_holds R rows over (one sort value) p x w named d = (p, d.0, meant sort d.0 (subst (λ (y : List Lexeme). list_all names_a_name y ≡ true) d.1 named), d.2)
 under_holds R rows over (row r) p x w named d = over r p x w named d
 under_holds R rows over (seq g h value) p x w named d =
-    let both = both_named d.front d.rest (subst (λ (y : List Lexeme). list_all names_name y ≡ true) d.whole named) in
+    let both = both_named d.front d.rest (subst (λ (y : List Lexeme). list_all names_a_name y ≡ true) d.whole named) in
     (p, d.first, d.second, under_holds R rows over g p d.front d.first both.0 d.one, under_holds R rows over h (p + length d.front) d.rest d.second both.1 d.two, d.is)
 under_holds R rows over (either g h) p x w named (inl d) = inl (under_holds R rows over g p x w named d)
 under_holds R rows over (either g h) p x w named (inr d) = inr (under_holds R rows over h p x w named d)
@@ -175,7 +175,7 @@ record SomeFormed (fs : List FormulaTree) : Type 0 where
   some : 1 ≤ length fs
   all : list_all formula_is_formed fs ≡ true
 
-abbrev Formed : (r : Row) → Tree r → Type 0
+abbrev Formed : (r : Nonterminal) → Tree r → Type 0
 Formed formula f = formula_is_formed f ≡ true
 Formed disj fs = SomeFormed fs
 Formed conj fs = SomeFormed fs
@@ -228,9 +228,9 @@ sum_formed p true t [] is all =
 sum_formed p false t (part ∷ ps) is all = more_formed p false t part ps is all
 sum_formed p true t (part ∷ ps) is all = more_formed p true t part ps is all
 
-name_formed : (m : Mention) → Holds Formed a_name m → names_a_name m ≡ true
+name_formed : (m : Mention) → Holds Formed a_name m → mentions_a_name m ≡ true
 unfolding Holds Meant
-name_formed m d = ap names_a_name d.3 ∙ d.2
+name_formed m d = ap mentions_a_name d.3 ∙ d.2
 
 listed_formed : (ts : List TermTree) → Holds Formed (listed signs.Comma (row term)) ts → some_all (map term_is_formed ts) ≡ true
 unfolding Holds
@@ -239,20 +239,20 @@ listed_formed ts d =
     ap (λ l. some_all (map term_is_formed l)) d.5
     ∙ both_true (le-leb 1 (length (map term_is_formed (d.1 ∷ d.2))) (omega arith)) (list_all-map (λ (part : Bool). part) term_is_formed (d.1 ∷ d.2) ∙ all)
 
-call_formed : (p : ℕ) (m : Mention) (args : Option (List TermTree)) → names_a_name m ≡ true → Holds Formed arguments args → term_is_formed (named p m args) ≡ true
+call_formed : (p : ℕ) (m : Mention) (args : Option (List TermTree)) → mentions_a_name m ≡ true → Holds Formed arguments args → term_is_formed (named p m args) ≡ true
 unfolding Holds
 call_formed p m args is (inr lone) = ap (λ o. term_is_formed (named p m o)) lone ∙ term_at p (s.Named m) ∙ named_at m ∙ is
 call_formed p m args is (inl d) =
     ap (λ o. term_is_formed (named p m o)) d.5 ∙ term_at p (s.Call m d.2) ∙ call_at m d.2
     ∙ both_true is (ap (λ l. some_all (map term_is_formed l)) d.4.5 ∙ listed_formed d.4.1 d.4.3)
 
-basic_formed : (t : TermTree) → Holds Formed (body basic) t → term_is_formed t ≡ true
+basic_formed : (t : TermTree) → Holds Formed (production basic) t → term_is_formed t ≡ true
 unfolding Holds
 basic_formed t (inl d) = ap term_is_formed d.3 ∙ term_at d.0 (s.Truth d.1) ∙ truth_at d.1
 basic_formed t (inr (inl d)) = ap term_is_formed d.5 ∙ term_at d.0 d.2.shape ∙ sym (term_at d.2.place d.2.shape) ∙ ap term_is_formed d.4.5 ∙ d.4.3
 basic_formed t (inr (inr d)) = ap term_is_formed d.5 ∙ call_formed d.0 d.1 d.2 (name_formed d.1 d.3) d.4
 
-factor_formed : (t : TermTree) → Holds Formed (body factor) t → term_is_formed t ≡ true
+factor_formed : (t : TermTree) → Holds Formed (production factor) t → term_is_formed t ≡ true
 unfolding Holds
 factor_formed t (inl d) = ap term_is_formed d.3 ∙ term_at d.0 (s.Number (record { number = d.1; place = d.0 })) ∙ number_at (record { number = d.1; place = d.0 })
 factor_formed t (inr d) = d
@@ -262,12 +262,12 @@ unfolding Holds
 product_formed p n f (inr lone) = ap (λ o. term_is_formed (product p n o)) lone ∙ term_at p (s.Number n) ∙ number_at n
 product_formed p n f (inl d) = ap (λ o. term_is_formed (product p n o)) d.5 ∙ term_at p (s.Times n d.2) ∙ times_at n d.2 ∙ d.4
 
-summand_formed : (t : TermTree) → Holds Formed (body summand) t → term_is_formed t ≡ true
+summand_formed : (t : TermTree) → Holds Formed (production summand) t → term_is_formed t ≡ true
 unfolding Holds
 summand_formed t (inl d) = ap term_is_formed d.5 ∙ product_formed d.0 d.1 d.2 d.4
 summand_formed t (inr d) = d
 
-whole_term_formed : (t : TermTree) → Holds Formed (body term) t → term_is_formed t ≡ true
+whole_term_formed : (t : TermTree) → Holds Formed (production term) t → term_is_formed t ≡ true
 unfolding Holds
 whole_term_formed t d =
     let r = d.4 in
@@ -309,7 +309,7 @@ unfolding Holds
 compared_formed t r is (inr lone) = ap (λ o. formula_is_formed (compared t o)) lone ∙ lone_at t ∙ is
 compared_formed t r is (inl d) = ap (λ o. formula_is_formed (compared t o)) d.5 ∙ compare_at d.1 d.0 t d.2 ∙ both_true is d.4
 
-primary_formed : (f : FormulaTree) → Holds Formed (body primary) f → formula_is_formed f ≡ true
+primary_formed : (f : FormulaTree) → Holds Formed (production primary) f → formula_is_formed f ≡ true
 unfolding Holds
 primary_formed f (inl d) = round_formed f d
 primary_formed f (inr (inl d)) = ap formula_is_formed d.5 ∙ bound_formed d.1 d.2 d.4
@@ -318,17 +318,17 @@ primary_formed f (inr (inr (inr (inl d)))) = ap formula_is_formed d.5 ∙ distan
 primary_formed f (inr (inr (inr (inr (inl d))))) = ap formula_is_formed d.5 ∙ paired_formed d.1 d.2 d.4
 primary_formed f (inr (inr (inr (inr (inr d))))) = ap formula_is_formed d.5 ∙ compared_formed d.1 d.2 d.3 d.4
 
-unary_formed : (f : FormulaTree) → Holds Formed (body unary) f → formula_is_formed f ≡ true
+unary_formed : (f : FormulaTree) → Holds Formed (production unary) f → formula_is_formed f ≡ true
 unfolding Holds
 unary_formed f (inl d) = ap formula_is_formed d.5 ∙ not_at d.2 ∙ d.4
 unary_formed f (inr d) = d
 
-units_formed : (fs : List FormulaTree) → Holds Formed (many (behind signs.And (row unary))) fs → list_all formula_is_formed fs ≡ true
+units_formed : (fs : List FormulaTree) → Holds Formed (many (behind_sign signs.And (row unary))) fs → list_all formula_is_formed fs ≡ true
 unfolding Holds Each
 units_formed [] each = refl
 units_formed (f ∷ fs) each = both_true (ap formula_is_formed each.0.5 ∙ each.0.4) (units_formed fs each.1)
 
-conj_formed : (fs : List FormulaTree) → Holds Formed (body conj) fs → SomeFormed fs
+conj_formed : (fs : List FormulaTree) → Holds Formed (production conj) fs → SomeFormed fs
 unfolding Holds
 conj_formed fs d = subst SomeFormed (sym d.5) (record { some = omega arith; all = both_true d.3 (units_formed d.2 d.4) })
 
@@ -337,7 +337,7 @@ unfolding Holds Each
 conjs_formed [] each = refl
 conjs_formed (f ∷ fs) each = both_true (ap formula_is_formed each.0.5 ∙ and_formed each.0.2 each.0.4) (conjs_formed fs each.1)
 
-disj_formed : (fs : List FormulaTree) → Holds Formed (body disj) fs → SomeFormed fs
+disj_formed : (fs : List FormulaTree) → Holds Formed (production disj) fs → SomeFormed fs
 unfolding Holds
 disj_formed fs d = subst SomeFormed (sym d.5) (record { some = omega arith; all = both_true (and_formed d.1 d.3) (conjs_formed d.2 d.4) })
 
@@ -351,11 +351,11 @@ unfolding Holds
 connected_formed fs r have (inr lone) = ap (λ o. formula_is_formed (connected fs o)) lone ∙ or_formed fs have
 connected_formed fs r have (inl d) = ap (λ o. formula_is_formed (connected fs o)) d.5 ∙ arrowed_formed d.1 (or_of fs) (or_of d.2) (or_formed fs have) (or_formed d.2 d.4)
 
-whole_formula_formed : (f : FormulaTree) → Holds Formed (body formula) f → formula_is_formed f ≡ true
+whole_formula_formed : (f : FormulaTree) → Holds Formed (production formula) f → formula_is_formed f ≡ true
 unfolding Holds
 whole_formula_formed f d = ap formula_is_formed d.5 ∙ connected_formed d.1 d.2 d.3 d.4
 
-row_formed : (r : Row) (w : Tree r) → Holds Formed (body r) w → Formed r w
+row_formed : (r : Nonterminal) (w : Tree r) → Holds Formed (production r) w → Formed r w
 row_formed formula w d = whole_formula_formed w d
 row_formed disj w d = disj_formed w d
 row_formed conj w d = conj_formed w d
@@ -366,17 +366,17 @@ row_formed summand w d = summand_formed w d
 row_formed factor w d = factor_formed w d
 row_formed basic w d = basic_formed w d
 
-rows_formed : (n : ℕ) (r : Row) (p : ℕ) (x : List Lexeme) (w : Tree r) → list_all names_name x ≡ true → rows_within n r p x w → Formed r w
+rows_formed : (n : ℕ) (r : Nonterminal) (p : ℕ) (x : List Lexeme) (w : Tree r) → list_all names_a_name x ≡ true → rows_within n r p x w → Formed r w
 unfolding rows_within
 rows_formed zero r p x w named d = absurd d
-rows_formed (suc n) r p x w named d = row_formed r w (under_holds (rows_within n) Formed (rows_formed n) (body r) p x w named d)
+rows_formed (suc n) r p x w named d = row_formed r w (under_holds (rows_within n) Formed (rows_formed n) (production r) p x w named d)
 
 -- statements
 
-words_formed : (ws : List Mention) → Holds Formed (many (behind signs.Comma a_name)) ws → list_all names_a_name ws ≡ true
+words_formed : (ws : List Mention) → Holds Formed (many (behind_sign signs.Comma a_name)) ws → list_all mentions_a_name ws ≡ true
 unfolding Holds Each
 words_formed [] each = refl
-words_formed (w ∷ ws) each = both_true (ap names_a_name each.0.5 ∙ name_formed each.0.2 each.0.4) (words_formed ws each.1)
+words_formed (w ∷ ws) each = both_true (ap mentions_a_name each.0.5 ∙ name_formed each.0.2 each.0.4) (words_formed ws each.1)
 
 values_formed : (w : ValuesTree) → Holds Formed domain_values w → values_are_formed w ≡ true
 unfolding Holds
@@ -385,7 +385,7 @@ values_formed w (inl d) =
     ap values_are_formed d.5 ∙ ap (λ ws. values_are_formed (values.Words ws)) (d.4.5 ∙ l.5) ∙ both_true (name_formed l.1 l.3) (words_formed l.2 l.4)
 values_formed w (inr d) = ap values_are_formed d.5
 
-ranges_formed : (ds : List RefTree) → Holds Formed (many (behind signs.Comma ref)) ds → list_all ref_is_formed ds ≡ true
+ranges_formed : (ds : List RefTree) → Holds Formed (many (behind_sign signs.Comma ref)) ds → list_all ref_is_formed ds ≡ true
 unfolding Holds Each
 ranges_formed [] each = refl
 ranges_formed (d ∷ ds) each = both_true (ap ref_is_formed each.0.5 ∙ range_formed each.0.2 each.0.4) (ranges_formed ds each.1)
@@ -425,7 +425,7 @@ unfolding Each
 each_true P test one_true [] each = refl
 each_true P test one_true (w ∷ ws) each = both_true (one_true w each.0) (each_true P test one_true ws each.1)
 
-declarations_formed : (ws : List DeclarationTree) → Holds Formed declarations ws → list_all declaration_is_formed ws ≡ true
+declarations_formed : (ws : List DeclarationTree) → Holds Formed declaring ws → list_all declaration_is_formed ws ≡ true
 unfolding Holds
 declarations_formed ws d = each_true (Holds Formed (either item domain)) declaration_is_formed declaration_formed ws d
 
@@ -443,5 +443,5 @@ spec_formed w d =
     ∙ ap (λ x. is_formed (record { instants = r.1; declarations = x.0; claims = x.1 })) (r.4.5 ∙ rest.5)
     ∙ both_true (declarations_formed rest.1 rest.3) (claims_formed rest.2 rest.4)
 
-pub tree_formed : (tokens : List Lexeme) (tree : SpecTree) → list_all names_name tokens ≡ true → IsSpec tokens tree → is_formed tree ≡ true
+pub tree_formed : (tokens : List Lexeme) (tree : SpecTree) → list_all names_a_name tokens ≡ true → IsSpec tokens tree → is_formed tree ≡ true
 tree_formed tokens tree named d = spec_formed tree (under_holds (rows_within d.depth) Formed (rows_formed d.depth) spec 0 tokens tree named d.reading)

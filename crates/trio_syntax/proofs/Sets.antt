@@ -9,9 +9,9 @@ use Rattle.trio_text.specs.declared.lexeme.Lexeme.{Lexeme}
 use Rattle.trio_text.specs.Spelling.{word_text, symbol_text}
 use Rattle.trio_syntax.specs.Reading.{Language}
 use Rattle.trio_syntax.specs.Forms.{Sort, sign, word, number, name, relation, adding, arrow, truth, quantifier, one_operator, far_operator, pair_operator, item_kind, claim_kind}
-use Rattle.trio_syntax.specs.Forms.{Meaning, token_of, Row, formula, disj, conj, unary, primary, term, summand, factor, basic, Tree, Form, empty, one, row, seq, either, many, Many, none, more, Under}
-use Rattle.trio_syntax.specs.Grammar.{body, rows_within, Says}
-use Rattle.trio_syntax.specs.Exact.{class, has, tokens_of, opens, goes_on, may_be_empty, where_empty, first, after, apart, Stops, Alike, Fronts}
+use Rattle.trio_syntax.specs.Forms.{SortValue, token_of, Nonterminal, formula, disj, conj, unary, primary, term, summand, factor, basic, Tree, Form, empty, one, row, seq, either, many, Many, none, more, Under}
+use Rattle.trio_syntax.specs.Grammar.{production, rows_within, Derives}
+use Rattle.trio_syntax.specs.Exact.{class, has, tokens_of, opens, goes_on, may_be_empty, where_empty, first, follow, apart, Stops, Alike, Fronts}
 use Rattle.trio_base.specs.declared.operators.Rel.TheVariants as rel
 use Rattle.trio_base.specs.declared.operators.Ends.TheVariants as ends
 use Rattle.trio_base.specs.declared.operators.OneOp.TheVariants as op
@@ -115,7 +115,7 @@ among_itself : (text : List ℕ) → (bytes_eq text text || false) ≡ true
 among_itself text = or_left (bytes_eq text text) false ((bytes_eq-Decides text text).1 refl)
 
 -- each token of a sort is among the tokens of the sort
-pub token_among : (sort : Sort) (m : Meaning sort) → has (tokens_of sort) (token_of sort m) ≡ true
+pub token_among : (sort : Sort) (m : SortValue sort) → has (tokens_of sort) (token_of sort m) ≡ true
 token_among (sign s) m = among_itself (symbol_text s)
 token_among (word w) m = among_itself (word_text w)
 token_among number m = refl
@@ -169,7 +169,7 @@ token_among claim_kind false = refl
 token_among claim_kind true = refl
 
 -- The rows' tokens in front, and those with which they go on, are right.
-pub row_opens : (r : Row) → within (first (body r)) (opens r) ≡ true
+pub row_opens : (r : Nonterminal) → within (first (production r)) (opens r) ≡ true
 row_opens formula = refl
 row_opens disj = refl
 row_opens conj = refl
@@ -180,7 +180,7 @@ row_opens summand = refl
 row_opens factor = refl
 row_opens basic = refl
 
-pub row_goes_on : (r : Row) → within (after (body r)) (goes_on r) ≡ true
+pub row_goes_on : (r : Nonterminal) → within (follow (production r)) (goes_on r) ≡ true
 row_goes_on formula = refl
 row_goes_on disj = refl
 row_goes_on conj = refl
@@ -191,7 +191,7 @@ row_goes_on summand = refl
 row_goes_on factor = refl
 row_goes_on basic = refl
 
-pub row_some : (r : Row) → may_be_empty (body r) ≡ false
+pub row_some : (r : Nonterminal) → may_be_empty (production r) ≡ false
 row_some formula = refl
 row_some disj = refl
 row_some conj = refl
@@ -242,7 +242,7 @@ many_opens {A} g G each p x vs (more {x = y} {y = z} {v = v} {vs = ws} d ds) = c
     cases (inl empty_) (inl others) = inl (ap (λ (w : List Lexeme). w ++ z) empty_.0 ∙ others)
     cases (inl empty_) (inr front) = inr (record { token = front.token; tail = front.tail; whole = ap (λ (w : List Lexeme). w ++ z) empty_.0 ∙ front.whole; is = front.is })
 
-under_opens : {A : Type 0} (R : (r : Row) → ℕ → Language (Tree r)) → ((r : Row) (p : ℕ) (x : List Lexeme) (v : Tree r) → R r p x v → Fronts (opens r) x) →
+under_opens : {A : Type 0} (R : (r : Nonterminal) → ℕ → Language (Tree r)) → ((r : Nonterminal) (p : ℕ) (x : List Lexeme) (v : Tree r) → R r p x v → Fronts (opens r) x) →
     (g : Form A) (p : ℕ) (x : List Lexeme) (v : A) → Under R g p x v → Opens g x
 unfolding Under
 under_opens R rows (empty a) p x v d = inl (d.0, refl)
@@ -255,20 +255,20 @@ under_opens R rows (either g h) p x v (inr d) = right_opens g h x (under_opens R
 under_opens R rows (many g) p x v d =
     ⊎_elim (λ (nil : x ≡ []). inl (nil, refl)) (λ (front : Fronts (first g) x). inr front) (many_opens g (Under R g) (under_opens R rows g) p x v d)
 
-row_fronts : (r : Row) (x : List Lexeme) → Opens (body r) x → Fronts (opens r) x
-row_fronts r x (inl nil_) = absurd (both_ways (may_be_empty (body r)) (row_some r) nil_.1)
-row_fronts r x (inr front) = record { token = front.token; tail = front.tail; whole = front.whole; is = within_set (first (body r)) (opens r) front.token (row_opens r) front.is }
+row_fronts : (r : Nonterminal) (x : List Lexeme) → Opens (production r) x → Fronts (opens r) x
+row_fronts r x (inl nil_) = absurd (both_ways (may_be_empty (production r)) (row_some r) nil_.1)
+row_fronts r x (inr front) = record { token = front.token; tail = front.tail; whole = front.whole; is = within_set (first (production r)) (opens r) front.token (row_opens r) front.is }
 
-rows_open : (n : ℕ) (r : Row) (p : ℕ) (x : List Lexeme) (v : Tree r) → rows_within n r p x v → Fronts (opens r) x
+rows_open : (n : ℕ) (r : Nonterminal) (p : ℕ) (x : List Lexeme) (v : Tree r) → rows_within n r p x v → Fronts (opens r) x
 unfolding rows_within
 rows_open zero r p x v d = absurd d
-rows_open (suc n) r p x v d = row_fronts r x (under_opens (rows_within n) (rows_open n) (body r) p x v d)
+rows_open (suc n) r p x v d = row_fronts r x (under_opens (rows_within n) (rows_open n) (production r) p x v d)
 
 -- how the texts of a form begin
-pub says_opens : {A : Type 0} {g : Form A} {p : ℕ} {x : List Lexeme} {v : A} → Says g p x v → Opens g x
+pub says_opens : {A : Type 0} {g : Form A} {p : ℕ} {x : List Lexeme} {v : A} → Derives g p x v → Opens g x
 says_opens {g = g} {p = p} {x = x} {v = v} d = under_opens (rows_within d.depth) (rows_open d.depth) g p x v d.reading
 
-pub says_fronts : {A : Type 0} {g : Form A} {p : ℕ} {x : List Lexeme} {v : A} → may_be_empty g ≡ false → Says g p x v → Fronts (first g) x
+pub says_fronts : {A : Type 0} {g : Form A} {p : ℕ} {x : List Lexeme} {v : A} → may_be_empty g ≡ false → Derives g p x v → Fronts (first g) x
 says_fronts {g = g} {x = x} some d = cases (says_opens d)
   where
     cases : Opens g x → Fronts (first g) x

@@ -23,7 +23,7 @@ use Rattle.trio_syntax.specs.declared.parser.Parser.{Parser}
 use Rattle.trio_syntax.specs.Words.{far_word}
 use Rattle.trio_syntax.specs.Exact.{by_word, by_sign, class, has, texts_of_words, texts_of_signs, tokens_of, Spot, Stops, Stays, FindsWord, Finds}
 use Rattle.trio_syntax.proofs.Lines.{found}
-use Rattle.trio_syntax.specs.Forms.{Sort, sign, word, number, name, relation, adding, arrow, truth, quantifier, one_operator, far_operator, pair_operator, item_kind, claim_kind, Meaning, token_of}
+use Rattle.trio_syntax.specs.Forms.{Sort, sign, word, number, name, relation, adding, arrow, truth, quantifier, one_operator, far_operator, pair_operator, item_kind, claim_kind, SortValue, token_of}
 
 abbrev pub word_in : {A : Type 0} → List (Reserved × A) → Lexeme → Option A
 word_in table (lexeme.Word w) = by_word table w
@@ -41,7 +41,7 @@ abbrev pub name_in : Lexeme → Option (List ℕ)
 name_in (lexeme.Name n) = Some n
 name_in token = None
 
-abbrev pub meaning_in : (sort : Sort) → Lexeme → Option (Meaning sort)
+abbrev pub meaning_in : (sort : Sort) → Lexeme → Option (SortValue sort)
 meaning_in (sign s) token = sign_in ((s, tt) ∷ []) token
 meaning_in (word w) token = word_in ((w, tt) ∷ []) token
 meaning_in number token = number_in token
@@ -58,7 +58,7 @@ meaning_in item_kind token = word_in ITEM_WORDS token
 meaning_in claim_kind token = word_in CLAIM_WORDS token
 
 -- every token that stands for something is found
-relation_found : (m : Meaning relation) → meaning_in relation (token_of relation m) ≡ Some m
+relation_found : (m : SortValue relation) → meaning_in relation (token_of relation m) ≡ Some m
 relation_found rel.Eq = refl
 relation_found rel.Ne = refl
 relation_found rel.Lt = refl
@@ -66,7 +66,7 @@ relation_found rel.Le = refl
 relation_found rel.Gt = refl
 relation_found rel.Ge = refl
 
-one_found : (m : Meaning one_operator) → meaning_in one_operator (token_of one_operator m) ≡ Some m
+one_found : (m : SortValue one_operator) → meaning_in one_operator (token_of one_operator m) ≡ Some m
 one_found op.Alw = refl
 one_found op.AlwF = refl
 one_found op.AlwP = refl
@@ -74,7 +74,7 @@ one_found op.Som = refl
 one_found op.SomF = refl
 one_found op.SomP = refl
 
-far_found : (m : Meaning far_operator) → meaning_in far_operator (token_of far_operator m) ≡ Some m
+far_found : (m : SortValue far_operator) → meaning_in far_operator (token_of far_operator m) ≡ Some m
 far_found far.Dist = refl
 far_found far.Futr = refl
 far_found far.Past = refl
@@ -104,16 +104,16 @@ bool_found : (find_in : Lexeme → Option Bool) (of : Bool → Lexeme) → find_
 bool_found find_in of one two false = one
 bool_found find_in of one two true = two
 
-quantifier_found : (m : Meaning quantifier) → meaning_in quantifier (token_of quantifier m) ≡ Some m
+quantifier_found : (m : SortValue quantifier) → meaning_in quantifier (token_of quantifier m) ≡ Some m
 quantifier_found quant.All = refl
 quantifier_found quant.Ex = refl
 
-pair_found : (m : Meaning pair_operator) → meaning_in pair_operator (token_of pair_operator m) ≡ Some m
+pair_found : (m : SortValue pair_operator) → meaning_in pair_operator (token_of pair_operator m) ≡ Some m
 pair_found pair.Until = refl
 pair_found pair.Since = refl
 
 -- a token has one meaning of a sort
-pub same_meaning : (sort : Sort) (m n : Meaning sort) → token_of sort m ≡ token_of sort n → m ≡ n
+pub same_meaning : (sort : Sort) (m n : SortValue sort) → token_of sort m ≡ token_of sort n → m ≡ n
 same_meaning (sign s) m n same = refl
 same_meaning (word w) m n same = refl
 same_meaning number m n same = cc

@@ -17,9 +17,9 @@ use Rattle.trio_syntax.specs.declared.tree.SpecTree.{SpecTree}
 use Rattle.trio_syntax.specs.Words.{rel_sign, one_word, far_word, pair_word, quantifier_word, truth_word, item_word, claim_word, arrow_sign, adding_sign}
 use Rattle.trio_syntax.specs.Reading.{IsReading, IsSyntaxFault}
 use Rattle.trio_syntax.specs.Forms.{Sort, sign, word, number, name, relation, adding, arrow, truth, quantifier, one_operator, far_operator, pair_operator, item_kind, claim_kind}
-use Rattle.trio_syntax.specs.Forms.{Meaning, token_of, Row, formula, disj, conj, unary, primary, term, summand, factor, basic, Form, empty, one, row, seq, either, many}
-use Rattle.trio_syntax.specs.Grammar.{body, spec, IsSpec}
-use Rattle.trio_syntax.specs.Exact.{Spot, class, has, tokens_of, texts_of_words, texts_of_signs, may_be_empty, first, after, apart, Reads, Stuck, Fronts, Stays}
+use Rattle.trio_syntax.specs.Forms.{SortValue, token_of, Nonterminal, formula, disj, conj, unary, primary, term, summand, factor, basic, Form, empty, one, row, seq, either, many}
+use Rattle.trio_syntax.specs.Grammar.{production, spec, IsSpec}
+use Rattle.trio_syntax.specs.Exact.{Spot, class, has, tokens_of, texts_of_words, texts_of_signs, may_be_empty, first, follow, apart, ReadsForm, Stuck, Fronts, Stays}
 use Rattle.trio_syntax.proofs.Sets.{either_true}
 use Rattle.trio_syntax.proofs.Tokens.{sign_spelled, word_spelled, stays_end, stays_at}
 use Rattle.trio_syntax.proofs.Left.{Left, left_left, left_read, left_stuck, left_row, left_right, left_first, left_seq, seq_stuck, left_many, many_end, reads_one, stuck_one, reads_empty}
@@ -30,7 +30,7 @@ use Rattle.trio_syntax.proofs.Faults.{fault_no_tree}
 
 -- what stands for something is among the tokens of its sort, and nothing else is
 abbrev Found : Sort → Lexeme → Type 0
-Found sort t = (m : Meaning sort) × (t ≡ token_of sort m)
+Found sort t = (m : SortValue sort) × (t ≡ token_of sort m)
 
 in_words : {A : Type 0} (table : List (Reserved × A)) (of : A → Reserved) (t : Lexeme) → list_all (λ line. bytes_eq (word_text line.0) (word_text (of line.1))) table ≡ true →
     has (texts_of_words table) t ≡ true → (m : A) × (t ≡ lexeme.Word (of m))
@@ -103,10 +103,10 @@ fronts_or set old = cases old.rest refl
 
 -- what a parser does at a spot
 data Outcome {A : Type 0} (g : Form A) (old : Spot) : Type 0 where
-  read : (new : Spot) (v : A) → Reads g old new v → Outcome g old
+  read : (new : Spot) (v : A) → ReadsForm g old new v → Outcome g old
   stuck : (new : Spot) → Stuck g old new → Outcome g old
 
-one_outcome : {A : Type 0} (sort : Sort) (value : ℕ → Meaning sort → A) (old : Spot) → Outcome (one sort value) old
+one_outcome : {A : Type 0} (sort : Sort) (value : ℕ → SortValue sort → A) (old : Spot) → Outcome (one sort value) old
 one_outcome sort value old =
     ⊎_elim
     (λ (front : Fronts (tokens_of sort) old.rest).
@@ -120,11 +120,11 @@ abbrev is_clear : {A : Type 0} → Form A → Bool
 is_clear (empty v) = true
 is_clear (one sort value) = true
 is_clear (row r) = true
-is_clear (seq g h value) = apart (after g) (first h) && (is_clear g && is_clear h)
+is_clear (seq g h value) = apart (follow g) (first h) && (is_clear g && is_clear h)
 is_clear (either g h) = not (may_be_empty g) && (apart (first g) (first h) && (is_clear g && is_clear h))
-is_clear (many g) = not (may_be_empty g) && (apart (after g) (first g) && is_clear g)
+is_clear (many g) = not (may_be_empty g) && (apart (follow g) (first g) && is_clear g)
 
-row_is_clear : (r : Row) → is_clear (body r) ≡ true
+row_is_clear : (r : Nonterminal) → is_clear (production r) ≡ true
 row_is_clear formula = refl
 row_is_clear disj = refl
 row_is_clear conj = refl
@@ -136,7 +136,7 @@ row_is_clear factor = refl
 row_is_clear basic = refl
 
 -- how high a row stands: it begins with lower rows
-abbrev rank : Row → ℕ
+abbrev rank : Nonterminal → ℕ
 rank formula = 8
 rank disj = 7
 rank conj = 6
@@ -156,7 +156,7 @@ begins_below n (seq g h value) = begins_below n g && (not (may_be_empty g) || be
 begins_below n (either g h) = begins_below n g && begins_below n h
 begins_below n (many g) = begins_below n g
 
-row_begins_below : (r : Row) → begins_below (rank r) (body r) ≡ true
+row_begins_below : (r : Nonterminal) → begins_below (rank r) (production r) ≡ true
 row_begins_below formula = refl
 row_begins_below disj = refl
 row_begins_below conj = refl
@@ -167,7 +167,7 @@ row_begins_below summand = refl
 row_begins_below factor = refl
 row_begins_below basic = refl
 
-rank_below : (r : Row) → nat_lt (rank r) 9 ≡ true
+rank_below : (r : Nonterminal) → nat_lt (rank r) 9 ≡ true
 rank_below formula = refl
 rank_below disj = refl
 rank_below conj = refl
@@ -200,14 +200,14 @@ after_not false c is here = absurd (true≢false (sym here))
 
 -- rows are known below a bound: nine for each token that is left, and the rank
 abbrev Rows : ℕ → Type 0
-Rows bound = (r : Row) (old : Spot) → 9 * length old.rest + rank r < bound → Outcome (row r) old
+Rows bound = (r : Nonterminal) (old : Spot) → 9 * length old.rest + rank r < bound → Outcome (row r) old
 
 lift : {A B : Type 0} {g : Form A} {h : Form B} {value : B → A} {old middle : Spot} → Left g old h value middle → Outcome h middle → Outcome g old
 lift {value = value} left (read new v r) = read new (value v) (left_read left r)
 lift left (stuck new s) = stuck new (left_stuck left s)
 
 -- none or more texts, by how many tokens are left at most
-many_outcome : {A : Type 0} (g : Form A) → may_be_empty g ≡ false → apart (after g) (first g) ≡ true → (bound n : ℕ) → ((old : Spot) → 9 * length old.rest + n ≤ bound → Outcome g old) →
+many_outcome : {A : Type 0} (g : Form A) → may_be_empty g ≡ false → apart (follow g) (first g) ≡ true → (bound n : ℕ) → ((old : Spot) → 9 * length old.rest + n ≤ bound → Outcome g old) →
     (k : ℕ) (old : Spot) → length old.rest < k → 9 * length old.rest + n ≤ bound → Outcome (many g) old
 many_outcome g some other bound n each zero old few inside = absurd (omega (arith, few))
 many_outcome {A} g some other bound n each (suc k) old few inside =
@@ -222,7 +222,7 @@ many_outcome {A} g some other bound n each (suc k) old few inside =
         let less = some_less some r in
         lift (left_left (left_many other front) (left_seq other r)) (later middle (omega (arith, less, few)) (omega (arith, less, inside)))
 
-seq_outcome : {A B C : Type 0} (g : Form B) (h : Form C) (value : ℕ → B → C → A) → apart (after g) (first h) ≡ true → (bound n : ℕ) → (not (may_be_empty g) || begins_below n h) ≡ true →
+seq_outcome : {A B C : Type 0} (g : Form B) (h : Form C) (value : ℕ → B → C → A) → apart (follow g) (first h) ≡ true → (bound n : ℕ) → (not (may_be_empty g) || begins_below n h) ≡ true →
     ((m : ℕ) → begins_below m h ≡ true → (middle : Spot) → 9 * length middle.rest + m ≤ bound → Outcome h middle) →
     (old : Spot) → 9 * length old.rest + n ≤ bound → Outcome g old → Outcome (seq g h value) old
 seq_outcome g h value other bound n below later old inside (stuck new s) = stuck new (seq_stuck (fill h) other s)
@@ -244,7 +244,7 @@ form_outcome bound rows (empty v) clear n below old inside = read old v reads_em
 form_outcome bound rows (one sort value) clear n below old inside = one_outcome sort value old
 form_outcome bound rows (row r) clear n below old inside = rows r old (omega (arith, ltb-true (rank r) n below, inside))
 form_outcome bound rows (seq g h value) clear n below old inside =
-    let c = and_parts (apart (after g) (first h)) (is_clear g && is_clear h) clear in
+    let c = and_parts (apart (follow g) (first h)) (is_clear g && is_clear h) clear in
     let d = and_parts (is_clear g) (is_clear h) c.1 in
     let b = and_parts (begins_below n g) (not (may_be_empty g) || begins_below n h) below in
     seq_outcome g h value c.0 bound n b.1 (form_outcome bound rows h d.1) old inside (form_outcome bound rows g d.0 n b.0 old inside)
@@ -255,13 +255,13 @@ form_outcome bound rows (either g h) clear n below old inside =
     let b = and_parts (begins_below n g) (begins_below n h) below in
     either_outcome g h (not_true (may_be_empty g) c.0) d.0 old (form_outcome bound rows g e.0 n b.0 old inside) (form_outcome bound rows h e.1 n b.1 old inside)
 form_outcome bound rows (many g) clear n below old inside =
-    let c = and_parts (not (may_be_empty g)) (apart (after g) (first g) && is_clear g) clear in
-    let d = and_parts (apart (after g) (first g)) (is_clear g) c.1 in
+    let c = and_parts (not (may_be_empty g)) (apart (follow g) (first g) && is_clear g) clear in
+    let d = and_parts (apart (follow g) (first g)) (is_clear g) c.1 in
     many_outcome g (not_true (may_be_empty g) c.0) d.0 bound n (form_outcome bound rows g d.1 n below) (suc (length old.rest)) old (omega arith) inside
 
 rows_outcome : (bound : ℕ) → Rows bound
 rows_outcome zero r old less = absurd (omega (arith, less))
-rows_outcome (suc bound) r old less = lift (left_row r) (form_outcome bound (rows_outcome bound) (body r) (row_is_clear r) (rank r) (row_begins_below r) old (omega (arith, less)))
+rows_outcome (suc bound) r old less = lift (left_row r) (form_outcome bound (rows_outcome bound) (production r) (row_is_clear r) (rank r) (row_begins_below r) old (omega (arith, less)))
 
 spec_outcome : (tokens : List Lexeme) → Outcome spec (record { at = 0; rest = tokens })
 spec_outcome tokens =

@@ -11,10 +11,10 @@ use Rattle.trio_syntax.specs.declared.refusal.Refusal.{Refusal}
 use Rattle.trio_syntax.specs.declared.refusal.Refusal.TheVariants as refusal
 use Rattle.trio_syntax.specs.declared.parser.Parser.{Parser}
 use Rattle.trio_syntax.specs.declared.words.TheConstants.{REL_SIGNS, ADDING_SIGNS, ARROW_SIGNS, TRUTH_WORDS, QUANTIFIER_WORDS, ITEM_WORDS, CLAIM_WORDS, ONE_WORDS, FAR_WORDS, PAIR_WORDS}
-use Rattle.trio_syntax.specs.Forms.{Sort, sign, word, number, name, relation, adding, arrow, truth, quantifier, one_operator, far_operator, pair_operator, item_kind, claim_kind, Meaning, token_of}
-use Rattle.trio_syntax.specs.Forms.{Row, formula, disj, conj, unary, primary, term, summand, factor, basic}
+use Rattle.trio_syntax.specs.Forms.{Sort, sign, word, number, name, relation, adding, arrow, truth, quantifier, one_operator, far_operator, pair_operator, item_kind, claim_kind, SortValue, token_of}
+use Rattle.trio_syntax.specs.Forms.{Nonterminal, formula, disj, conj, unary, primary, term, summand, factor, basic}
 use Rattle.trio_syntax.specs.Forms.{Form, empty, one, row, seq, either, many}
-use Rattle.trio_syntax.specs.Grammar.{Says}
+use Rattle.trio_syntax.specs.Grammar.{Derives}
 
 -- where a parser stands: so many tokens are read, and these are left
 pub record Spot : Type 0 where
@@ -66,7 +66,7 @@ tokens_of item_kind = texts_of_words ITEM_WORDS
 tokens_of claim_kind = texts_of_words CLAIM_WORDS
 
 -- the tokens that a text of a row begins with
-abbrev pub opens : Row → List (List ℕ)
+abbrev pub opens : Nonterminal → List (List ℕ)
 opens basic = tokens_of truth ++ (codes "[" ∷ codes "a" ∷ [])
 opens factor = codes "0" ∷ (tokens_of truth ++ (codes "[" ∷ codes "a" ∷ []))
 opens summand = codes "0" ∷ (tokens_of truth ++ (codes "[" ∷ codes "a" ∷ []))
@@ -82,7 +82,7 @@ opens r =
 abbrev pub term_goes_on : List (List ℕ)
 term_goes_on = codes "+" ∷ codes "-" ∷ codes "*" ∷ codes "(" ∷ []
 
-abbrev pub goes_on : Row → List (List ℕ)
+abbrev pub goes_on : Nonterminal → List (List ℕ)
 goes_on basic = codes "(" ∷ []
 goes_on factor = codes "(" ∷ []
 goes_on summand = codes "*" ∷ codes "(" ∷ []
@@ -116,13 +116,13 @@ first (either g h) = first g ++ first h
 first (many g) = first g
 
 -- the tokens with which a text of a form goes on inside a longer text of it
-abbrev pub after : {A : Type 0} → Form A → List (List ℕ)
-after (empty v) = []
-after (one sort value) = []
-after (row r) = goes_on r
-after (seq g h value) = after h ++ where_empty (may_be_empty h) (first h ++ after g)
-after (either g h) = (after g ++ after h) ++ (where_empty (may_be_empty g) (first h) ++ where_empty (may_be_empty h) (first g))
-after (many g) = first g ++ after g
+abbrev pub follow : {A : Type 0} → Form A → List (List ℕ)
+follow (empty v) = []
+follow (one sort value) = []
+follow (row r) = goes_on r
+follow (seq g h value) = follow h ++ where_empty (may_be_empty h) (first h ++ follow g)
+follow (either g h) = (follow g ++ follow h) ++ (where_empty (may_be_empty g) (first h) ++ where_empty (may_be_empty h) (first g))
+follow (many g) = first g ++ follow g
 
 -- no token is in both sets
 abbrev pub apart : List (List ℕ) → List (List ℕ) → Bool
@@ -141,12 +141,12 @@ Alike (t ∷ x) [] = ⊥
 Alike (t ∷ x) (u ∷ y) = t ≡ u
 
 -- what stands between the two spots is a text of the form, and with the next token there is no other text and value of it
-pub record Reads {A : Type 0} (g : Form A) (old new : Spot) (v : A) : Type 0 where
+pub record ReadsForm {A : Type 0} (g : Form A) (old new : Spot) (v : A) : Type 0 where
   pub text : List Lexeme
   pub whole : old.rest ≡ text ++ new.rest
   pub place : new.at ≡ old.at + length text
-  pub reading : Says g old.at text v
-  pub only : (x : List Lexeme) (w : A) (s z : List Lexeme) → Says g old.at x w → Stops (after g) s → x ++ s ≡ text ++ z → Alike z new.rest → (x ≡ text) × (w ≡ v)
+  pub reading : Derives g old.at text v
+  pub only : (x : List Lexeme) (w : A) (s z : List Lexeme) → Derives g old.at x w → Stops (follow g) s → x ++ s ≡ text ++ z → Alike z new.rest → (x ≡ text) × (w ≡ v)
 
 -- what stands between the two spots begins a text of the form, and with the next token it begins none
 pub record Stuck {A : Type 0} (g : Form A) (old new : Spot) : Type 0 where
@@ -155,12 +155,12 @@ pub record Stuck {A : Type 0} (g : Form A) (old new : Spot) : Type 0 where
   pub place : new.at ≡ old.at + length text
   pub more : List Lexeme
   pub value : A
-  pub begins : Says g old.at (text ++ more) value
-  pub dead : (x : List Lexeme) (w : A) (s z : List Lexeme) → Says g old.at x w → Stops (after g) s → x ++ s ≡ text ++ z → Alike z new.rest → ⊥
+  pub begins : Derives g old.at (text ++ more) value
+  pub dead : (x : List Lexeme) (w : A) (s z : List Lexeme) → Derives g old.at x w → Stops (follow g) s → x ++ s ≡ text ++ z → Alike z new.rest → ⊥
 
 -- the only text of the form is gone over, or what stands before where no text of it goes on
 abbrev pub ExactAt : {A : Type 0} → Form A → Spot → Spot → Result A Refusal → Type 0
-ExactAt g old new (Ok v) = Reads g old new v
+ExactAt g old new (Ok v) = ReadsForm g old new v
 ExactAt g old new (Err refusal.Syntax) = Stuck g old new
 ExactAt g old new (Err refusal.Memory) = Unit {0}
 
@@ -175,7 +175,7 @@ pub record Fronts (set : List (List ℕ)) (x : List Lexeme) : Type 0 where
   pub is : has set token ≡ true
 
 -- a parser goes over the token of a sort that stands for this
-pub record Takes (sort : Sort) (m : Meaning sort) (old new : Spot) : Type 0 where
+pub record Takes (sort : Sort) (m : SortValue sort) (old new : Spot) : Type 0 where
   pub whole : old.rest ≡ token_of sort m ∷ new.rest
   pub place : new.at ≡ old.at + 1
 
@@ -199,14 +199,14 @@ FindsSign table old new (Some m) = (s : Symbol) × (by_sign table s ≡ Some m) 
 FindsSign table old new None = Stays (texts_of_signs table) (spot old) (spot new)
 
 -- a parser goes over the next token where it is of this sort
-abbrev pub Finds : (sort : Sort) → Parser → Parser → Option (Meaning sort) → Type 0
+abbrev pub Finds : (sort : Sort) → Parser → Parser → Option (SortValue sort) → Type 0
 Finds sort old new (Some m) = Takes sort m (spot old) (spot new)
 Finds sort old new None = Stays (tokens_of sort) (spot old) (spot new)
 
 -- a parser goes over a text of the form, where one begins here
 abbrev pub ExactNextAt : {A : Type 0} → Form A → Spot → Spot → Result (Option A) Refusal → Type 0
 ExactNextAt g old new (Ok None) = Stays (first g) old new
-ExactNextAt g old new (Ok (Some v)) = Fronts (first g) old.rest × Reads g old new v
+ExactNextAt g old new (Ok (Some v)) = Fronts (first g) old.rest × ReadsForm g old new v
 ExactNextAt g old new (Err refusal.Syntax) = Fronts (first g) old.rest × Stuck g old new
 ExactNextAt g old new (Err refusal.Memory) = Unit {0}
 

@@ -32,24 +32,24 @@ pub data Sort : Type 0 where
   claim_kind : Sort
 
 -- what a token of a sort stands for
-abbrev pub Meaning : Sort → Type 0
-Meaning (sign s) = Unit {0}
-Meaning (word w) = Unit {0}
-Meaning number = ℕ
-Meaning name = List ℕ
-Meaning relation = Rel
-Meaning adding = Bool
-Meaning arrow = Bool
-Meaning truth = Bool
-Meaning quantifier = Quantifier
-Meaning one_operator = OneOp
-Meaning far_operator = FarOp
-Meaning pair_operator = PairOp
-Meaning item_kind = Bool
-Meaning claim_kind = Bool
+abbrev pub SortValue : Sort → Type 0
+SortValue (sign s) = Unit {0}
+SortValue (word w) = Unit {0}
+SortValue number = ℕ
+SortValue name = List ℕ
+SortValue relation = Rel
+SortValue adding = Bool
+SortValue arrow = Bool
+SortValue truth = Bool
+SortValue quantifier = Quantifier
+SortValue one_operator = OneOp
+SortValue far_operator = FarOp
+SortValue pair_operator = PairOp
+SortValue item_kind = Bool
+SortValue claim_kind = Bool
 
 -- the token that stands for it
-abbrev pub token_of : (sort : Sort) → Meaning sort → Lexeme
+abbrev pub token_of : (sort : Sort) → SortValue sort → Lexeme
 token_of (sign s) m = lexeme.Sign s
 token_of (word w) m = lexeme.Word w
 token_of number n = lexeme.Number n
@@ -65,20 +65,20 @@ token_of pair_operator op = lexeme.Word (pair_word op)
 token_of item_kind input = lexeme.Word (item_word input)
 token_of claim_kind goal = lexeme.Word (claim_word goal)
 
--- the rows of the grammar that lead back to themselves
-pub data Row : Type 0 where
-  formula : Row
-  disj : Row
-  conj : Row
-  unary : Row
-  primary : Row
-  term : Row
-  summand : Row
-  factor : Row
-  basic : Row
+-- the nonterminals: the rows of the grammar that lead back to themselves
+pub data Nonterminal : Type 0 where
+  formula : Nonterminal
+  disj : Nonterminal
+  conj : Nonterminal
+  unary : Nonterminal
+  primary : Nonterminal
+  term : Nonterminal
+  summand : Nonterminal
+  factor : Nonterminal
+  basic : Nonterminal
 
--- what a text of a row stands for; a disjunction and a conjunction stand for the list of their parts
-abbrev pub Tree : Row → Type 0
+-- what a text of a nonterminal stands for; a disjunction and a conjunction stand for the list of their parts
+abbrev pub Tree : Nonterminal → Type 0
 Tree formula = FormulaTree
 Tree disj = List FormulaTree
 Tree conj = List FormulaTree
@@ -94,9 +94,9 @@ pub data Form : Type 0 → Type 1 where
   -- no token
   empty : {A : Type 0} → A → Form A
   -- one token of a sort
-  one : {A : Type 0} (sort : Sort) → (ℕ → Meaning sort → A) → Form A
-  -- a row of the grammar
-  row : (r : Row) → Form (Tree r)
+  one : {A : Type 0} (sort : Sort) → (ℕ → SortValue sort → A) → Form A
+  -- a text of a nonterminal
+  row : (r : Nonterminal) → Form (Tree r)
   -- one behind the other
   seq : {A B C : Type 0} → Form B → Form C → (ℕ → B → C → A) → Form A
   -- one of two
@@ -121,9 +121,9 @@ pub data Many {A : Type 0} (G : ℕ → Language A) : ℕ → List Lexeme → Li
   more : {p : ℕ} {x y : List Lexeme} {v : A} {vs : List A} → G p x v → Many G (p + length x) y vs → Many G p (x ++ y) (v ∷ vs)
 
 -- From this place on the tokens are a text of the form and stand for this value, where the texts of rows are these.
-unfoldable pub Under : {A : Type 0} → ((r : Row) → ℕ → Language (Tree r)) → Form A → ℕ → Language A
+unfoldable pub Under : {A : Type 0} → ((r : Nonterminal) → ℕ → Language (Tree r)) → Form A → ℕ → Language A
 Under rows (empty a) p x v = (x ≡ []) × (v ≡ a)
-Under rows (one sort value) p x v = (m : Meaning sort) × (x ≡ token_of sort m ∷ []) × (v ≡ value p m)
+Under rows (one sort value) p x v = (m : SortValue sort) × (x ≡ token_of sort m ∷ []) × (v ≡ value p m)
 Under rows (row r) p x v = rows r p x v
 Under rows (seq g h value) p x v = Joined (Under rows g) (Under rows h) value p x v
 Under rows (either g h) p x v = Under rows g p x v ⊎ Under rows h p x v

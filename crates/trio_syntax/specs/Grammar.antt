@@ -23,8 +23,8 @@ use Rattle.trio_syntax.specs.declared.tree.DeclarationTree.TheVariants as declar
 use Rattle.trio_syntax.specs.declared.tree.ClaimTree.{ClaimTree}
 use Rattle.trio_syntax.specs.declared.tree.SpecTree.{SpecTree}
 use Rattle.trio_syntax.specs.Reading.{Language}
-use Rattle.trio_syntax.specs.Forms.{Sort, Meaning, sign, word, number, name, relation, adding, arrow, truth, quantifier, one_operator, far_operator, pair_operator, item_kind, claim_kind}
-use Rattle.trio_syntax.specs.Forms.{Row, formula, disj, conj, unary, primary, term, summand, factor, basic, Tree}
+use Rattle.trio_syntax.specs.Forms.{Sort, SortValue, sign, word, number, name, relation, adding, arrow, truth, quantifier, one_operator, far_operator, pair_operator, item_kind, claim_kind}
+use Rattle.trio_syntax.specs.Forms.{Nonterminal, formula, disj, conj, unary, primary, term, summand, factor, basic, Tree}
 use Rattle.trio_syntax.specs.Forms.{Form, empty, one, row, seq, either, many, Under}
 
 -- a symbol, a word, a number and a name, the last two with their places
@@ -41,7 +41,7 @@ a_name = one name (λ p n. record { name = n; place = p })
 abbrev pub a_word : Reserved → Form (Unit {0})
 a_word w = one (word w) (λ p m. m)
 
-abbrev pub a : (sort : Sort) → Form (Meaning sort)
+abbrev pub a : (sort : Sort) → Form (SortValue sort)
 a sort = one sort (λ p m. m)
 
 -- two texts, which stand for a pair
@@ -49,19 +49,19 @@ abbrev pub both : {A B : Type 0} → Form A → Form B → Form (A × B)
 both g h = seq g h (λ p v w. (v, w))
 
 -- what stands behind a symbol, and before one
-abbrev pub behind : {A : Type 0} → Symbol → Form A → Form A
-behind s g = seq (a_sign s) g (λ p u v. v)
+abbrev pub behind_sign : {A : Type 0} → Symbol → Form A → Form A
+behind_sign s g = seq (a_sign s) g (λ p u v. v)
 
-abbrev pub before : {A : Type 0} → Form A → Symbol → Form A
-before g s = seq g (a_sign s) (λ p v u. v)
+abbrev pub before_sign : {A : Type 0} → Form A → Symbol → Form A
+before_sign g s = seq g (a_sign s) (λ p v u. v)
 
 -- ( g )
 abbrev pub round : {A : Type 0} → Form A → Form A
-round g = behind signs.LeftRound (before g signs.RightRound)
+round g = behind_sign signs.LeftRound (before_sign g signs.RightRound)
 
 -- g { sign g }
 abbrev pub listed : {A : Type 0} → Symbol → Form A → Form (List A)
-listed s g = seq g (many (behind s g)) (λ p v vs. v ∷ vs)
+listed s g = seq g (many (behind_sign s g)) (λ p v vs. v ∷ vs)
 
 -- [ g ]
 abbrev pub optional : {A : Type 0} → Form (Option A) → Form (Option A)
@@ -114,19 +114,19 @@ ref = either (one (word words.Bool) (λ p u. ref_to.Bool)) (one name (λ p n. re
 
 -- the rest of a quantifier: name : ref ( formula )
 abbrev pub bound : Form (Mention × (RefTree × FormulaTree))
-bound = both a_name (behind signs.Colon (both ref (round (row formula))))
+bound = both a_name (behind_sign signs.Colon (both ref (round (row formula))))
 
 -- the rest of an operator with a distance: ( formula , term )
 abbrev pub distant : Form (FormulaTree × TermTree)
-distant = behind signs.LeftRound (both (before (row formula) signs.Comma) (before (row term) signs.RightRound))
+distant = behind_sign signs.LeftRound (both (before_sign (row formula) signs.Comma) (before_sign (row term) signs.RightRound))
 
 -- the rest of an operator on two formulas: ( formula , formula )
 abbrev pub paired : Form (FormulaTree × FormulaTree)
-paired = behind signs.LeftRound (both (before (row formula) signs.Comma) (before (row formula) signs.RightRound))
+paired = behind_sign signs.LeftRound (both (before_sign (row formula) signs.Comma) (before_sign (row formula) signs.RightRound))
 
 -- a quantifier, and the operators: on one formula, with a distance, and on two formulas
-abbrev pub quantified : Form FormulaTree
-quantified = seq (a quantifier) bound (λ p q r. formulas.Quantified q r.0 r.1.0 r.1.1)
+abbrev pub quantification : Form FormulaTree
+quantification = seq (a quantifier) bound (λ p q r. formulas.Quantified q r.0 r.1.0 r.1.1)
 
 abbrev pub one_operation : Form FormulaTree
 one_operation = seq (a one_operator) (round (row formula)) (λ p op f. formulas.One op f)
@@ -143,33 +143,33 @@ atom = seq (row term) (optional (seq (a relation) (row term) (λ p r t. Some (r,
 
 -- [ ( term { , term } ) ]
 abbrev pub arguments : Form (Option (List TermTree))
-arguments = optional (seq (a_sign signs.LeftRound) (before (listed signs.Comma (row term)) signs.RightRound) (λ p u ts. Some ts))
+arguments = optional (seq (a_sign signs.LeftRound) (before_sign (listed signs.Comma (row term)) signs.RightRound) (λ p u ts. Some ts))
 
 -- { ( + or - ) summand }
 abbrev pub more_summands : Form (List PartTree)
 more_summands = many (seq (a adding) (row summand) (λ p minus t. record { minus = minus; term = t }))
 
-abbrev pub body : (r : Row) → Form (Tree r)
+abbrev pub production : (r : Nonterminal) → Form (Tree r)
 -- formula = disj [ ( -> or <-> ) disj ]
-body formula = seq (row disj) (optional (seq (a arrow) (row disj) (λ p both gs. Some (both, gs)))) (λ p fs r. connected fs r)
+production formula = seq (row disj) (optional (seq (a arrow) (row disj) (λ p both gs. Some (both, gs)))) (λ p fs r. connected fs r)
 -- disj = conj { | conj }
-body disj = seq (row conj) (many (seq (a_sign signs.Or) (row conj) (λ p u fs. and_of fs))) (λ p fs gs. and_of fs ∷ gs)
+production disj = seq (row conj) (many (seq (a_sign signs.Or) (row conj) (λ p u fs. and_of fs))) (λ p fs gs. and_of fs ∷ gs)
 -- conj = unary { & unary }
-body conj = listed signs.And (row unary)
+production conj = listed signs.And (row unary)
 -- unary = [ ! ] primary
-body unary = either (seq (a_sign signs.Not) (row primary) (λ p u f. formulas.Not f)) (row primary)
+production unary = either (seq (a_sign signs.Not) (row primary) (λ p u f. formulas.Not f)) (row primary)
 -- primary = ( formula ), or quantifier, or operator, or atom
-body primary = either (round (row formula)) (either quantified (either one_operation (either far_operation (either pair_operation atom))))
+production primary = either (round (row formula)) (either quantification (either one_operation (either far_operation (either pair_operation atom))))
 -- term = [ - ] summand { ( + or - ) summand }
-body term = seq signed (both (row summand) more_summands) (λ p minus r. sum p minus r.0 r.1)
+production term = seq signed (both (row summand) more_summands) (λ p minus r. sum p minus r.0 r.1)
 -- summand = number [ * factor ], or what else is a factor
-body summand = either (seq a_number (optional (seq (a_sign signs.Times) (row factor) (λ p u t. Some t))) product) (row basic)
+production summand = either (seq a_number (optional (seq (a_sign signs.Times) (row factor) (λ p u t. Some t))) product) (row basic)
 -- factor = number, or what else is a factor
-body factor = either (one number (λ p n. record { place = p; shape = shape.Number (record { number = n; place = p }) })) (row basic)
+production factor = either (one number (λ p n. record { place = p; shape = shape.Number (record { number = n; place = p }) })) (row basic)
 -- what else is a factor: true, or false, or [ term ], or name, or name ( term { , term } )
-body basic =
+production basic =
     either (one truth (λ p b. record { place = p; shape = shape.Truth b }))
-    (either (seq (a_sign signs.LeftSquare) (before (row term) signs.RightSquare) (λ p u t. record { place = p; shape = t.shape }))
+    (either (seq (a_sign signs.LeftSquare) (before_sign (row term) signs.RightSquare) (λ p u t. record { place = p; shape = t.shape }))
     (seq a_name arguments named))
 
 -- int = [ - ] number
@@ -179,12 +179,12 @@ int = seq signed a_number (λ p minus n. record { minus = minus; number = n })
 -- { name { , name } }, or int .. int
 abbrev pub domain_values : Form ValuesTree
 domain_values =
-    either (seq (a_sign signs.LeftBrace) (before (listed signs.Comma a_name) signs.RightBrace) (λ p u ws. values.Words ws))
-    (seq int (behind signs.Span int) (λ p least greatest. values.Range least greatest))
+    either (seq (a_sign signs.LeftBrace) (before_sign (listed signs.Comma a_name) signs.RightBrace) (λ p u ws. values.Words ws))
+    (seq int (behind_sign signs.Span int) (λ p least greatest. values.Range least greatest))
 
 -- domain name = values ;
 abbrev pub domain_rest : Form (Mention × ValuesTree)
-domain_rest = both a_name (behind signs.Eq (before domain_values signs.Semi))
+domain_rest = both a_name (behind_sign signs.Eq (before_sign domain_values signs.Semi))
 
 abbrev pub domain : Form DeclarationTree
 domain = seq (a_word words.Domain) domain_rest (λ p u r. declared.Domain (record { name = r.0; values = r.1 }))
@@ -195,7 +195,7 @@ refs = either (round (listed signs.Comma ref)) (empty [])
 
 -- ( item or input ) name [ ( ref { , ref } ) ] : ref ;
 abbrev pub item_rest : Form (Mention × (List RefTree × RefTree))
-item_rest = both a_name (both refs (behind signs.Colon (before ref signs.Semi)))
+item_rest = both a_name (both refs (behind_sign signs.Colon (before_sign ref signs.Semi)))
 
 abbrev pub item : Form DeclarationTree
 item = seq (a item_kind) item_rest (λ p input r. declared.Item (record { input = input; name = r.0; args = r.1.0; value = r.1.1 }))
@@ -206,14 +206,14 @@ instant = optional (seq (a_word words.At) a_number (λ p u n. Some n))
 
 -- ( axiom or goal ) name [ at number ] : formula ;
 abbrev pub claim_rest : Form (Mention × (Option Written × FormulaTree))
-claim_rest = both a_name (both instant (behind signs.Colon (before (row formula) signs.Semi)))
+claim_rest = both a_name (both instant (behind_sign signs.Colon (before_sign (row formula) signs.Semi)))
 
 abbrev pub claim : Form ClaimTree
 claim = seq (a claim_kind) claim_rest (λ p goal r. record { goal = goal; name = r.0; at = r.1.0; formula = r.1.1 })
 
 -- { domain or item } { axiom or goal }
-abbrev pub declarations : Form (List DeclarationTree)
-declarations = many (either item domain)
+abbrev pub declaring : Form (List DeclarationTree)
+declaring = many (either item domain)
 
 abbrev pub claims : Form (List ClaimTree)
 claims = many claim
@@ -221,19 +221,19 @@ claims = many claim
 -- spec = time number ; { domain or item } { axiom or goal }
 abbrev pub spec : Form SpecTree
 spec =
-    seq (a_word words.Time) (both a_number (behind signs.Semi (both declarations claims)))
+    seq (a_word words.Time) (both a_number (behind_sign signs.Semi (both declaring claims)))
     (λ p u r. record { instants = r.0; declarations = r.1.0; claims = r.1.1 })
 
 -- the texts of a row in which so many rows at most stand inside one another
-unfoldable pub rows_within : ℕ → (r : Row) → ℕ → Language (Tree r)
+unfoldable pub rows_within : ℕ → (r : Nonterminal) → ℕ → Language (Tree r)
 rows_within zero r p x v = ⊥
-rows_within (suc n) r p x v = Under (rows_within n) (body r) p x v
+rows_within (suc n) r p x v = Under (rows_within n) (production r) p x v
 
 -- from this place on, the tokens are a text of the form and stand for this value
-pub record Says {A : Type 0} (g : Form A) (p : ℕ) (tokens : List Lexeme) (v : A) : Type 0 where
+pub record Derives {A : Type 0} (g : Form A) (p : ℕ) (tokens : List Lexeme) (v : A) : Type 0 where
   pub depth : ℕ
   pub reading : Under (rows_within depth) g p tokens v
 
 -- the tokens are this specification
 abbrev pub IsSpec : List Lexeme → SpecTree → Type 0
-IsSpec tokens tree = Says spec 0 tokens tree
+IsSpec tokens tree = Derives spec 0 tokens tree

@@ -20,8 +20,8 @@ use Rattle.trio_syntax.specs.declared.tree.DeclarationTree.TheVariants as declar
 use Rattle.trio_syntax.specs.declared.tree.ClaimTree.{ClaimTree}
 use Rattle.trio_syntax.specs.declared.tree.SpecTree.{SpecTree}
 
-abbrev pub names_a_name : Mention → Bool
-names_a_name mention = is_name mention.name
+abbrev pub mentions_a_name : Mention → Bool
+mentions_a_name mention = is_name mention.name
 
 -- so many of these at least, and each of them so
 abbrev pub some_all : List Bool → Bool
@@ -44,8 +44,8 @@ is_sum parts = list_all (λ part. part.formed) parts
 abbrev pub shape_is_formed : TermShape-F Bool Part Bool → Bool
 shape_is_formed (shape.Number n) = true
 shape_is_formed (shape.Truth b) = true
-shape_is_formed (shape.Named name) = names_a_name name
-shape_is_formed (shape.Call name args) = names_a_name name && some_all args
+shape_is_formed (shape.Named name) = mentions_a_name name
+shape_is_formed (shape.Call name args) = mentions_a_name name && some_all args
 shape_is_formed (shape.Sum parts) = is_sum parts
 shape_is_formed (shape.Times n factor) = factor
 
@@ -61,7 +61,7 @@ term_is_formed = fold-TermTree Bool Part Bool shape_is_formed part_formed term_f
 
 abbrev pub ref_is_formed : RefTree → Bool
 ref_is_formed ref.Bool = true
-ref_is_formed (ref.Named name) = names_a_name name
+ref_is_formed (ref.Named name) = mentions_a_name name
 
 abbrev pub node_is_formed : FormulaTree-F Bool → Bool
 node_is_formed (node.Lone term) = term_is_formed term
@@ -71,7 +71,7 @@ node_is_formed (node.And parts) = two_all parts
 node_is_formed (node.Or parts) = two_all parts
 node_is_formed (node.Implies left right) = left && right
 node_is_formed (node.Iff left right) = left && right
-node_is_formed (node.Quantified quantifier name domain part) = names_a_name name && ref_is_formed domain && part
+node_is_formed (node.Quantified quantifier name domain part) = mentions_a_name name && ref_is_formed domain && part
 node_is_formed (node.One op part) = part
 node_is_formed (node.Far op part distance) = part && term_is_formed distance
 node_is_formed (node.Pair op left right) = left && right
@@ -83,14 +83,14 @@ formula_is_formed = fold-FormulaTree Bool node_is_formed
 abbrev pub values_are_formed : ValuesTree → Bool
 values_are_formed (values.Range least greatest) = true
 values_are_formed (values.Words []) = false
-values_are_formed (values.Words names) = list_all names_a_name names
+values_are_formed (values.Words names) = list_all mentions_a_name names
 
 abbrev pub declaration_is_formed : DeclarationTree → Bool
-declaration_is_formed (declaration.Domain domain) = names_a_name domain.name && values_are_formed domain.values
-declaration_is_formed (declaration.Item item) = names_a_name item.name && list_all ref_is_formed item.args && ref_is_formed item.value
+declaration_is_formed (declaration.Domain domain) = mentions_a_name domain.name && values_are_formed domain.values
+declaration_is_formed (declaration.Item item) = mentions_a_name item.name && list_all ref_is_formed item.args && ref_is_formed item.value
 
 abbrev pub claim_is_formed : ClaimTree → Bool
-claim_is_formed claim = names_a_name claim.name && formula_is_formed claim.formula
+claim_is_formed claim = mentions_a_name claim.name && formula_is_formed claim.formula
 
 -- every declaration and every claim is so
 abbrev pub is_formed : SpecTree → Bool

@@ -1,7 +1,7 @@
 //! The rows of formulas.
 ghost use Rattle.std.specs.Prelude.{◌≡◌, true};
 ghost use Rattle.trio_syntax.specs.Forms.{sign, row, either, formula, disj, conj, unary, primary};
-ghost use Rattle.trio_syntax.specs.Grammar.{before, and_of, or_of, round, ref, bound, distant, paired, one_operation, far_operation, pair_operation, atom};
+ghost use Rattle.trio_syntax.specs.Grammar.{before_sign, and_of, or_of, round, ref, bound, distant, paired, one_operation, far_operation, pair_operation, atom};
 ghost use Rattle.trio_syntax.specs.Exact.{tokens_of, goes_on, apart, Exact};
 
 use crate::parser::Parser;
@@ -162,7 +162,7 @@ impl<'a> Parser<'a> {
     #[cycle(formula)]
     pub fn formula_until(&mut self, close: Symbol) -> Result<FormulaTree, Refusal>
         requires { apart (goes_on formula) (tokens_of (sign close)) ≡ true }
-        ensures { Exact (before (row formula) close) self.old self.new result }
+        ensures { Exact (before_sign (row formula) close) self.old self.new result }
     {
         let inner = self.formula()?;
         self.sign(close)?;

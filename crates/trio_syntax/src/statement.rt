@@ -1,6 +1,6 @@
 //! The rows of statements, and the whole text.
 ghost use Rattle.trio_syntax.specs.Forms.{either};
-ghost use Rattle.trio_syntax.specs.Grammar.{a_name, listed, ref, refs, int, domain_values, domain_rest, domain, item_rest, item, declarations, instant, claim_rest, claim, claims, spec};
+ghost use Rattle.trio_syntax.specs.Grammar.{a_name, listed, ref, refs, int, domain_values, domain_rest, domain, item_rest, item, declaring, instant, claim_rest, claim, claims, spec};
 ghost use Rattle.trio_syntax.specs.Exact.{Exact, ExactNext};
 
 use crate::parser::Parser;
@@ -123,7 +123,7 @@ impl<'a> Parser<'a> {
 
     /// { domain or item }
     fn declarations(&mut self) -> Result<List<DeclarationTree>, Refusal>
-        ensures { Exact declarations self.old self.new result }
+        ensures { Exact declaring self.old self.new result }
     {
         let mut declarations = List::new(self.alloc);
         while let Some(declaration) = self.next_declaration()? {

@@ -9,7 +9,7 @@ use Rattle.std.proofs.Math.Seq.{take-append_seam}
 use Rattle.trio_text.specs.declared.token.Symbol.{Symbol}
 use Rattle.trio_text.specs.declared.token.TokenKind.{TokenKind}
 use Rattle.trio_text.specs.declared.token.TokenKind.TheVariants as kind
-use Rattle.trio_text.specs.Spelling.{is_letter, is_digit, is_name_byte, is_number, symbol_text, Spells}
+use Rattle.trio_text.specs.Spelling.{is_letter, is_digit, is_name_byte, is_numeral, symbol_text, Spells}
 use Rattle.trio_text.specs.Tokens.{IsLongest}
 use Rattle.trio_text.specs.declared.spelling.TheConstants.{SYMBOLS}
 use Rattle.trio_text.specs.Reading.{is_word, symbol_of, IsFront, BeginsNoToken}
@@ -49,7 +49,7 @@ longest_word word rest spelled ends = record {
       (word_bytes (word ++ more) (letter_word k (word ++ more) spells (begins_more is_letter word more (word_letter word spelled))));
 }
 
-pub longest_number : (word rest : List ℕ) → is_number word ≡ true → Ends is_digit rest → IsLongest word rest
+pub longest_number : (word rest : List ℕ) → is_numeral word ≡ true → Ends is_digit rest → IsLongest word rest
 longest_number word rest spelled ends = record {
   longest = λ k more after is spells.
       run_whole is_digit word rest more after ends is
@@ -96,7 +96,7 @@ run_word text [] (b ∷ rest) r letter =
 run_word text (b ∷ bs) rest r letter =
     and_both _ _ (sym (ap (begins_with is_letter) r.whole) ∙ letter) (and_right (is_name_byte b) _ r.all)
 
-run_number : (text word rest : List ℕ) → IsRun is_digit text word rest → begins_with is_digit text ≡ true → is_number word ≡ true
+run_number : (text word rest : List ℕ) → IsRun is_digit text word rest → begins_with is_digit text ≡ true → is_numeral word ≡ true
 run_number text [] [] r digit = absurd (false≢true (sym (ap (begins_with is_digit) r.whole) ∙ digit))
 run_number text [] (b ∷ rest) r digit =
     let first : is_digit b ≡ true = sym (ap (begins_with is_digit) r.whole) ∙ digit in absurd (false≢true (sym r.ends ∙ first))
@@ -123,7 +123,7 @@ pub front_number : (text : List ℕ) (n : ℕ) → n ≡ length (take_while is_d
 front_number text n is digit =
     let runs = run is_digit text in
     let word : List ℕ = take_while is_digit text in
-    let spelled : is_number word ≡ true = run_number text word runs.0 runs.1 digit in
+    let spelled : is_numeral word ≡ true = run_number text word runs.0 runs.1 digit in
     front_of text word runs.0 kind.Number n runs.1.whole is spelled (longest_number word runs.0 spelled runs.1.ends)
 
 pub front_symbol : (text : List ℕ) (s : Symbol) (n : ℕ) → symbol_of text ≡ Some s → n ≡ length (symbol_text s) → IsFront text (kind.Sign s) n

@@ -11,7 +11,7 @@ use Rattle.trio_text.specs.declared.token.Symbol.{Symbol}
 use Rattle.trio_text.specs.declared.token.Symbol.TheVariants as symbol
 use Rattle.trio_text.specs.declared.token.TokenKind.{TokenKind}
 use Rattle.trio_text.specs.declared.token.TokenKind.TheVariants as kind
-use Rattle.trio_text.specs.Spelling.{is_letter, is_digit, is_name_byte, is_blank, is_reserved, is_name, is_number, word_text, symbol_text, Spells}
+use Rattle.trio_text.specs.Spelling.{is_letter, is_digit, is_name_byte, is_blank, is_reserved, is_name, is_numeral, word_text, symbol_text, Spells}
 use Rattle.trio_text.specs.declared.spelling.TheConstants.{RESERVED, SYMBOLS}
 use Rattle.trio_text.specs.Reading.{is_word, reserved_of, symbol_of}
 use Rattle.trio_text.proofs.Runs.{and_left, and_right, and_both, or_left, not_true, all_at, find_none, find_nothing, found_passes, fails_each}
@@ -260,11 +260,11 @@ word_bytes [] word = refl
 word_bytes (b ∷ bs) word =
     and_both _ _ (or_left (is_letter b || is_digit b) _ (or_left (is_letter b) _ (and_left (is_letter b) _ word))) (and_right (is_letter b) _ word)
 
-pub number_digit : (spelled : List ℕ) → is_number spelled ≡ true → begins_with is_digit spelled ≡ true
+pub number_digit : (spelled : List ℕ) → is_numeral spelled ≡ true → begins_with is_digit spelled ≡ true
 number_digit [] number = number
 number_digit (b ∷ bs) number = and_left (is_digit b) _ number
 
-pub number_bytes : (spelled : List ℕ) → is_number spelled ≡ true → list_all is_digit spelled ≡ true
+pub number_bytes : (spelled : List ℕ) → is_numeral spelled ≡ true → list_all is_digit spelled ≡ true
 number_bytes [] number = refl
 number_bytes (b ∷ bs) number = number
 
@@ -297,7 +297,7 @@ letter_word (kind.Word r) spelled spells letter = ap is_word spells ∙ word_is_
 letter_word (kind.Sign s) spelled spells letter =
     absurd (apart is_sign_byte is_letter spelled sign_no_letter (symbol_spelled s spelled spells) letter)
 
-pub digit_number : (k : TokenKind) (spelled : List ℕ) → Spells k spelled → begins_with is_digit spelled ≡ true → is_number spelled ≡ true
+pub digit_number : (k : TokenKind) (spelled : List ℕ) → Spells k spelled → begins_with is_digit spelled ≡ true → is_numeral spelled ≡ true
 digit_number kind.Name spelled spells digit =
     absurd (apart is_letter is_digit spelled letter_no_digit (word_letter spelled (name_word spelled spells)) digit)
 digit_number kind.Number spelled spells digit = spells

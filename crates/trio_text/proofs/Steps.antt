@@ -14,7 +14,7 @@ use Rattle.trio_text.specs.declared.token.LexFault.TheVariants.{Byte}
 use Rattle.trio_text.specs.Spelling.{is_blank, Spells}
 use Rattle.trio_text.specs.Tokens.{IsLongest, IsComment, EndsLine, line_after, Lexes, IsTokens, BeginsNothing, IsLexFault, AreTokens}
 use Rattle.trio_text.specs.Tokens.Lexes.{nothing, blank, comment, token}
-use Rattle.trio_text.specs.Reading.{IsFront, BeginsNoToken, BeginsNoBlank, Reads}
+use Rattle.trio_text.specs.Reading.{IsFront, BeginsNoToken, BeginsNoBlank, ReadsTokens}
 use Rattle.trio_text.proofs.Runs.{and_left, and_right, not_true, not_false, Ends, run, run_only, GoesOn, goes_on, none_longer}
 use Rattle.trio_text.proofs.Longest.{drop_seam, begins_some}
 use Rattle.trio_text.proofs.Spellings.{begins_with, begins_token, token_begins, one_kind}
@@ -189,21 +189,21 @@ one_fault text place other fault also =
 
 -- ---- steps
 
-pub reads_none : (place line : ℕ) (text : List ℕ) → Reads place line text [] place line text
+pub reads_none : (place line : ℕ) (text : List ℕ) → ReadsTokens place line text [] place line text
 reads_none place line text = record {
   into = λ more end lexes. lexes;
   only = λ others lexes. (others, lexes, refl);
   here = refl;
 }
 
-pub reads_blank : (place line b : ℕ) (text rest : List ℕ) → text ≡ b ∷ rest → is_blank b ≡ true → Reads place line text [] (place + 1) (line_after line b) rest
+pub reads_blank : (place line b : ℕ) (text rest : List ℕ) → text ≡ b ∷ rest → is_blank b ≡ true → ReadsTokens place line text [] (place + 1) (line_after line b) rest
 reads_blank place line b text rest is blanks = record {
   into = λ more end lexes. subst (λ (t : List ℕ). Lexes place line t more end) (sym is) (blank blanks lexes);
   only = λ others lexes. (others, after_blank place line text others [] lexes (inl refl) b rest is blanks, refl);
   here = omega (arith, ap length is);
 }
 
-pub reads_comment : (place line : ℕ) (text bytes rest : List ℕ) → text ≡ bytes ++ rest → IsComment bytes → EndsLine rest → Reads place line text [] (place + length bytes) line rest
+pub reads_comment : (place line : ℕ) (text bytes rest : List ℕ) → text ≡ bytes ++ rest → IsComment bytes → EndsLine rest → ReadsTokens place line text [] (place + length bytes) line rest
 reads_comment place line text bytes rest is c ends = record {
   into = λ more end lexes. subst (λ (t : List ℕ). Lexes place line t more end) (sym is) (comment c ends lexes);
   only = λ others lexes. (others, after_comment place line text others [] lexes (inl refl) bytes rest is c ends, refl);
@@ -211,15 +211,15 @@ reads_comment place line text bytes rest is c ends = record {
 }
 
 pub reads_token : (place line : ℕ) (k : TokenKind) (text word rest : List ℕ) → text ≡ word ++ rest → Spells k word → IsLongest word rest →
-    Reads place line text (token_at k place (length word) line ∷ []) (place + length word) line rest
+    ReadsTokens place line text (token_at k place (length word) line ∷ []) (place + length word) line rest
 reads_token place line k text word rest is spells longest = record {
   into = λ more end lexes. subst (λ (t : List ℕ). Lexes place line t (token_at k place (length word) line ∷ more) end) (sym is) (token spells longest lexes);
   only = λ others lexes. let after = after_token place line text others [] lexes (inl refl) k word rest is spells longest in (after.more, after.behind, after.first);
   here = omega (arith, ap length is, length-append word rest);
 }
 
-pub reads_on : (p l q m r n : ℕ) (text middle rest : List ℕ) (tokens more : List Token) → Reads p l text tokens q m middle → Reads q m middle more r n rest →
-    Reads p l text (tokens ++ more) r n rest
+pub reads_on : (p l q m r n : ℕ) (text middle rest : List ℕ) (tokens more : List Token) → ReadsTokens p l text tokens q m middle → ReadsTokens q m middle more r n rest →
+    ReadsTokens p l text (tokens ++ more) r n rest
 reads_on p l q m r n text middle rest tokens more a b = record {
   into = λ others end lexes.
       subst (λ (ts : List Token). Lexes p l text ts end) (sym (append_assoc tokens more others)) (a.into (more ++ others) end (b.into others end lexes));
@@ -233,7 +233,7 @@ reads_on p l q m r n text middle rest tokens more a b = record {
 -- ---- the end
 
 -- the whole text was read
-pub reads_all : (text rest : List ℕ) (tokens : List Token) (place line : ℕ) → Reads 0 1 text tokens place line rest → rest ≡ [] →
+pub reads_all : (text rest : List ℕ) (tokens : List Token) (place line : ℕ) → ReadsTokens 0 1 text tokens place line rest → rest ≡ [] →
     IsTokens text tokens × ((others : List Token) → IsTokens text others → others ≡ tokens)
 reads_all text rest tokens place line r empty = (
   subst (λ (ts : List Token). Lexes 0 1 text ts []) (append-nil tokens) (r.into [] [] (subst (λ (t : List ℕ). Lexes place line t [] []) (sym empty) nothing)),
@@ -243,7 +243,7 @@ reads_all text rest tokens place line r empty = (
 )
 
 -- nothing begins behind what was read
-pub reads_stuck : (text rest : List ℕ) (tokens : List Token) (place line : ℕ) → Reads 0 1 text tokens place line rest → BeginsNothing rest →
+pub reads_stuck : (text rest : List ℕ) (tokens : List Token) (place line : ℕ) → ReadsTokens 0 1 text tokens place line rest → BeginsNothing rest →
     IsLexFault text place × ((others : List Token) → IsTokens text others → ⊥)
 reads_stuck text rest tokens place line r stuck =
     let fault : IsLexFault text place = record {
@@ -260,16 +260,16 @@ begins_nothing text some blanks tokens = record { some = some; blank = blanks.bl
 
 -- ---- steps of the reader
 
-reads_to : (place line : ℕ) (text : List ℕ) (tokens : List Token) (q m r n : ℕ) (rest behind : List ℕ) → Reads place line text tokens q m rest → r ≡ q → n ≡ m → behind ≡ rest →
-    Reads place line text tokens r n behind
+reads_to : (place line : ℕ) (text : List ℕ) (tokens : List Token) (q m r n : ℕ) (rest behind : List ℕ) → ReadsTokens place line text tokens q m rest → r ≡ q → n ≡ m → behind ≡ rest →
+    ReadsTokens place line text tokens r n behind
 reads_to place line text tokens q m r n rest behind reads places lines rests =
-    subst (λ (t : List ℕ). Reads place line text tokens r n t) (sym rests)
-    (subst (λ (k : ℕ). Reads place line text tokens r k rest) (sym lines)
-    (subst (λ (k : ℕ). Reads place line text tokens k m rest) (sym places) reads))
+    subst (λ (t : List ℕ). ReadsTokens place line text tokens r n t) (sym rests)
+    (subst (λ (k : ℕ). ReadsTokens place line text tokens r k rest) (sym lines)
+    (subst (λ (k : ℕ). ReadsTokens place line text tokens k m rest) (sym places) reads))
 
 -- past a blank
 pub skips_blank : (place line b : ℕ) (text tail : List ℕ) (at at_line : ℕ) (rest : List ℕ) → text ≡ b ∷ tail → true ≡ is_blank b → at ≡ place + 1 → at_line ≡ line_after line b →
-    rest ≡ drop 1 text → Reads place line text [] at at_line rest
+    rest ≡ drop 1 text → ReadsTokens place line text [] at at_line rest
 skips_blank place line b text tail at at_line rest is blanks places lines rests =
     reads_to place line text [] (place + 1) (line_after line b) at at_line tail rest (reads_blank place line b text tail is (sym blanks)) places lines (rests ∙ ap (drop 1) is)
 
@@ -294,7 +294,7 @@ comment_front text behind is = record {
 
 -- past a comment
 pub skips_comment : (place line : ℕ) (text : List ℕ) (n at at_line : ℕ) (rest : List ℕ) → true ≡ starts_with nat_eq text (47 ∷ 47 ∷ []) →
-    n ≡ length (take_while (λ b. not (b == 10)) text) → at ≡ place + n → at_line ≡ line → rest ≡ drop n text → Reads place line text [] at at_line rest
+    n ≡ length (take_while (λ b. not (b == 10)) text) → at ≡ place + n → at_line ≡ line → rest ≡ drop n text → ReadsTokens place line text [] at at_line rest
 skips_comment place line text n at at_line rest starts is places lines rests =
     let runs = run (λ b. not (b == 10)) text in
     let bytes : List ℕ = take_while (λ b. not (b == 10)) text in
@@ -305,13 +305,13 @@ skips_comment place line text n at at_line rest starts is places lines rests =
 
 -- past a token
 pub reads_front : (place newlines : ℕ) (k : TokenKind) (text : List ℕ) (n at after : ℕ) (rest : List ℕ) → IsFront text k n → at ≡ place + n → after ≡ newlines → rest ≡ drop n text →
-    Reads place (newlines + 1) text (record { kind = k; start = place; end = at; line = after + 1 } ∷ []) at (after + 1) rest
+    ReadsTokens place (newlines + 1) text (record { kind = k; start = place; end = at; line = after + 1 } ∷ []) at (after + 1) rest
 reads_front place newlines k text n at after rest front places lines rests =
     let whole : text ≡ take n text ++ drop n text = sym (take-append-drop n text) in
     let long : length (take n text) ≡ n = length-take-le n text front.within in
     let ends : at ≡ place + length (take n text) = places ∙ ap (λ m. place + m) (sym long) in
     let ends_at : place + length (take n text) ≡ at = sym ends in
-    subst (λ (t : Token). Reads place (newlines + 1) text (t ∷ []) at (after + 1) rest)
+    subst (λ (t : Token). ReadsTokens place (newlines + 1) text (t ∷ []) at (after + 1) rest)
     (λ i. record { kind = k; start = place; end = ends_at i; line = sym lines i + 1 })
     (reads_to place (newlines + 1) text (token_at k place (length (take n text)) (newlines + 1) ∷ []) (place + length (take n text)) (newlines + 1) at (after + 1) (drop n text) rest
     (reads_token place (newlines + 1) k text (take n text) (drop n text) whole front.spells front.longest) ends (ap (λ m. m + 1) lines) rests)
@@ -324,15 +324,15 @@ front_shorter k text n rest front rests =
 
 -- a token more
 pub reads_next : (text : List ℕ) (found : List Token) (place newlines : ℕ) (rest : List ℕ) (q m : ℕ) (same : List ℕ) (t : Token) (r n : ℕ) (behind : List ℕ) →
-    Reads 0 1 text found place (newlines + 1) rest → (same ≡ rest) × (q ≡ place) × (m ≡ newlines) → Reads q (m + 1) same (t ∷ []) r (n + 1) behind →
-    Reads 0 1 text (found ++ t ∷ []) r (n + 1) behind
+    ReadsTokens 0 1 text found place (newlines + 1) rest → (same ≡ rest) × (q ≡ place) × (m ≡ newlines) → ReadsTokens q (m + 1) same (t ∷ []) r (n + 1) behind →
+    ReadsTokens 0 1 text (found ++ t ∷ []) r (n + 1) behind
 reads_next text found place newlines rest q m same t r n behind before stays read =
     reads_on 0 1 q (m + 1) r (n + 1) text same behind found (t ∷ [])
     (reads_to 0 1 text found place (newlines + 1) q (m + 1) rest same before stays.1 (ap (λ k. k + 1) stays.2) stays.0) read
 
 -- the fault
 pub reads_fault : (text : List ℕ) (found : List Token) (place line : ℕ) (rest : List ℕ) (q : ℕ) (same : List ℕ) (r : Result (List Token) LexFault) (e : LexFault) →
-    Reads 0 1 text found place line rest → 0 < length rest → BeginsNoBlank rest → same ≡ rest → q ≡ place → (e ≡ Byte q) × BeginsNoToken same →
+    ReadsTokens 0 1 text found place line rest → 0 < length rest → BeginsNoBlank rest → same ≡ rest → q ≡ place → (e ≡ Byte q) × BeginsNoToken same →
     IsErrAnd r (λ y. y ≡ e) → AreTokens text r
 reads_fault text found place line rest q same (Ok x) e before some blanks rests places stuck err = absurd err
 reads_fault text found place line rest q same (Err y) e before some blanks rests places stuck err =
@@ -342,9 +342,9 @@ reads_fault text found place line rest q same (Err y) e before some blanks rests
 pub some_left : (rest : List ℕ) → (length rest == 0) ≡ false → 0 < length rest
 some_left rest some = grind (arith, nat_tests)
 
-pub reads_past : (text : List ℕ) (found : List Token) (p l q m r n : ℕ) (middle rest : List ℕ) → Reads p l text found q m middle → Reads q m middle [] r n rest → Reads p l text found r n rest
+pub reads_past : (text : List ℕ) (found : List Token) (p l q m r n : ℕ) (middle rest : List ℕ) → ReadsTokens p l text found q m middle → ReadsTokens q m middle [] r n rest → ReadsTokens p l text found r n rest
 reads_past text found p l q m r n middle rest before past =
-    subst (λ (ts : List Token). Reads p l text ts r n rest) (append-nil found) (reads_on p l q m r n text middle rest found [] before past)
+    subst (λ (ts : List Token). ReadsTokens p l text ts r n rest) (append-nil found) (reads_on p l q m r n text middle rest found [] before past)
 
 pub all_read : (rest : List ℕ) → true ≡ (length rest == 0) → rest ≡ []
 all_read rest none = none_longer rest ((Decides-eqb (length rest) 0).0 (sym none))

@@ -13,7 +13,7 @@ use Rattle.trio_text.specs.declared.token.TokenKind.TheVariants as kind
 use Rattle.trio_text.specs.Spelling.{is_letter, is_digit, is_name_byte, is_blank}
 use Rattle.trio_text.specs.Tokens.{line_after, Lexes, IsTokens, IsLexFault}
 use Rattle.trio_text.specs.Tokens.Lexes.{nothing}
-use Rattle.trio_text.specs.Reading.{reserved_of, symbol_of, IsFront, BeginsNoToken, BeginsNoBlank, Reads}
+use Rattle.trio_text.specs.Reading.{reserved_of, symbol_of, IsFront, BeginsNoToken, BeginsNoBlank, ReadsTokens}
 use Rattle.trio_text.proofs.Longest.{word_front, front_word, front_number, front_symbol, no_token}
 use Rattle.trio_text.proofs.Spellings.{begins_with, reserved_spells, word_name}
 use Rattle.trio_text.proofs.Steps.{Final, reads_blank, reads_token, comment_front, skips_comment, front_shorter, begins_nothing}
@@ -56,7 +56,7 @@ record Ended (place line : ℕ) (text : List ℕ) : Type 0 where
 abbrev Shorter : List ℕ → Type 0
 Shorter text = (at at_line : ℕ) (rest : List ℕ) → length rest < length text → Ended at at_line rest
 
-behind : (place line : ℕ) (text : List ℕ) (tokens : List Token) (at at_line : ℕ) (rest : List ℕ) → Reads place line text tokens at at_line rest →
+behind : (place line : ℕ) (text : List ℕ) (tokens : List Token) (at at_line : ℕ) (rest : List ℕ) → ReadsTokens place line text tokens at at_line rest →
     length rest < length text → Shorter text → Ended place line text
 behind place line text tokens at at_line rest read shorter more =
     let end = more at at_line rest shorter in

@@ -39,7 +39,7 @@ pub record BeginsNoBlank (text : List ℕ) : Type 0 where
   pub comment : (rest : List ℕ) → text ≡ 47 ∷ 47 ∷ rest → ⊥
 
 -- Between one place of a text and a later one stand these tokens, and whatever tokens the text is, it begins with these.
-pub record Reads (place line : ℕ) (text : List ℕ) (tokens : List Token) (at at_line : ℕ) (rest : List ℕ) : Type 0 where
+pub record ReadsTokens (place line : ℕ) (text : List ℕ) (tokens : List Token) (at at_line : ℕ) (rest : List ℕ) : Type 0 where
   pub into : (more : List Token) (end : List ℕ) → Lexes at at_line rest more end → Lexes place line text (tokens ++ more) end
   pub only : (others : List Token) → Lexes place line text others [] → (more : List Token) × Lexes at at_line rest more [] × (others ≡ tokens ++ more)
   pub here : at + length rest ≡ place + length text

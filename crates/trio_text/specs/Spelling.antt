@@ -87,13 +87,13 @@ symbol_text symbol.Span = codes ".."
 symbol_text symbol.Unknown = codes "?"
 
 -- a number: one or more digits
-abbrev pub is_number : List ℕ → Bool
-is_number [] = false
-is_number (b ∷ bs) = is_digit b && list_all is_digit bs
+abbrev pub is_numeral : List ℕ → Bool
+is_numeral [] = false
+is_numeral (b ∷ bs) = is_digit b && list_all is_digit bs
 
 -- these bytes are the spelling of a token of this kind
 abbrev pub Spells : TokenKind → List ℕ → Type 0
 Spells kind.Name word = is_name word ≡ true
-Spells kind.Number word = is_number word ≡ true
+Spells kind.Number word = is_numeral word ≡ true
 Spells (kind.Word r) word = word ≡ word_text r
 Spells (kind.Sign s) word = word ≡ symbol_text s

@@ -4,7 +4,7 @@ ghost use Rattle.std.specs.Prelude.{◌≡◌, ◌+◌, ◌^◌, ◌<◌, ◌≤
 ghost use Rattle.std.specs.Bool.{OnTrue, OnFalse};
 ghost use Rattle.trio_text.specs.Spelling.{Spells};
 ghost use Rattle.trio_text.specs.Tokens.{AreTokens};
-ghost use Rattle.trio_text.specs.Reading.{is_word, IsFront, BeginsNoToken, BeginsNoBlank, Reads};
+ghost use Rattle.trio_text.specs.Reading.{is_word, IsFront, BeginsNoToken, BeginsNoBlank, ReadsTokens};
 
 use crate::spelling::{
     is_blank, is_digit, is_letter, line_length, name_length, number_length, reserved, symbol,
@@ -49,7 +49,7 @@ pub fn tokens(alloc: Global, text: &[u8]) -> Result<TokenList, LexFault>
 impl<'a> Lexer<'a> {
     /// Goes past a blank or a comment, where one stands next.
     fn skips(&mut self) -> bool
-        ensures skipped { OnTrue result (Reads self.old.place (self.old.newlines + 1) self.old.rest.now [] self.new.place (self.new.newlines + 1) self.new.rest.now) }
+        ensures skipped { OnTrue result (ReadsTokens self.old.place (self.old.newlines + 1) self.old.rest.now [] self.new.place (self.new.newlines + 1) self.new.rest.now) }
         ensures shorter { OnTrue result (length self.new.rest.now < length self.old.rest.now) }
         ensures none { OnFalse result (BeginsNoBlank self.old.rest.now) }
         ensures stays { OnFalse result ((self.new.rest.now ≡ self.old.rest.now) × (self.new.place ≡ self.old.place) × (self.new.newlines ≡ self.old.newlines)) }
@@ -74,7 +74,7 @@ impl<'a> Lexer<'a> {
 
     /// Takes the token that stands next.
     fn token(&mut self) -> Result<Token, LexFault>
-        ensures read { MatchResult result (λ token. Reads self.old.place (self.old.newlines + 1) self.old.rest.now (token ∷ []) self.new.place (self.new.newlines + 1) self.new.rest.now) (λ fault. (fault ≡ LexFault.Byte self.old.place) × BeginsNoToken self.old.rest.now) }
+        ensures read { MatchResult result (λ token. ReadsTokens self.old.place (self.old.newlines + 1) self.old.rest.now (token ∷ []) self.new.place (self.new.newlines + 1) self.new.rest.now) (λ fault. (fault ≡ LexFault.Byte self.old.place) × BeginsNoToken self.old.rest.now) }
         ensures shorter { OnOk result (length self.new.rest.now < length self.old.rest.now) }
     {
         let Some((kind, count)) = front(self.rest) else {

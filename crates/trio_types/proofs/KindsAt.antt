@@ -20,7 +20,7 @@ use Rattle.trio_types.specs.declared.formula.Formula.TheOpen as open_formula
 use Rattle.trio_types.specs.declared.formula.Formula.TheFolds.{fold-roll-Formula, map-Formula}
 use Rattle.trio_types.specs.declared.formula.Formula.TheViews.{roll-Formula}
 use Rattle.trio_types.specs.World.{World}
-use Rattle.trio_types.specs.Kinds.{Gathered, gathered, gather_term, gather_part, kind, term_uses, in_role, of_domain, alone, compared, distance, kind_in, Uses, uses, formula_uses}
+use Rattle.trio_types.specs.Kinds.{Gathered, gathered, gather_term, gather_part, kind_of_term, term_uses, required, of_domain, alone, compared, distance, kind_in, Uses, uses, formula_uses}
 use Rattle.trio_types.proofs.Lists.{map_same}
 
 abbrev signed_gathered : World → List ℕ → SignedTerm → Gathered
@@ -57,10 +57,10 @@ uses_at : (w : World) {f : Formula} (x : Formula-F Formula) → roll-Formula x �
 unfolding uses
 uses_at w x is = ap (uses w) (sym is) ∙ fold-roll-Formula Uses (formula_uses w) x
 
-pub uses-Lone : (w : World) (x : Term) (vs : List ℕ) → uses w (formula.Lone x) vs ≡ in_role alone (kind w vs x) ∷ term_uses w vs false x
+pub uses-Lone : (w : World) (x : Term) (vs : List ℕ) → uses w (formula.Lone x) vs ≡ required alone (kind_of_term w vs x) ∷ term_uses w vs false x
 uses-Lone w x vs = ap (λ f. f vs) (uses_at w (open_formula.Lone x) (formula.rolls-Lone x))
 
-pub uses-Compare : (w : World) (r : Rel) (x y : Term) (vs : List ℕ) → uses w (formula.Compare r x y) vs ≡ in_role (compared r (kind w vs x)) (kind w vs y) ∷ term_uses w vs false x ++ term_uses w vs false y
+pub uses-Compare : (w : World) (r : Rel) (x y : Term) (vs : List ℕ) → uses w (formula.Compare r x y) vs ≡ required (compared r (kind_of_term w vs x)) (kind_of_term w vs y) ∷ term_uses w vs false x ++ term_uses w vs false y
 uses-Compare w r x y vs = ap (λ f. f vs) (uses_at w (open_formula.Compare r x y) (formula.rolls-Compare r x y))
 
 pub uses-Not : (w : World) (f : Formula) (vs : List ℕ) → uses w (formula.Not f) vs ≡ uses w f vs
@@ -87,7 +87,7 @@ uses-Ex w name d f vs = ap (λ f. f vs) (uses_at w (open_formula.Ex name d f) (f
 pub uses-One : (w : World) (o : OneOp) (f : Formula) (vs : List ℕ) → uses w (formula.One o f) vs ≡ uses w f vs
 uses-One w o f vs = ap (λ f. f vs) (uses_at w (open_formula.One o f) (formula.rolls-One o f))
 
-pub uses-Far : (w : World) (o : FarOp) (f : Formula) (x : Term) (vs : List ℕ) → uses w (formula.Far o f x) vs ≡ in_role distance (kind w vs x) ∷ uses w f vs ++ term_uses w vs true x
+pub uses-Far : (w : World) (o : FarOp) (f : Formula) (x : Term) (vs : List ℕ) → uses w (formula.Far o f x) vs ≡ required distance (kind_of_term w vs x) ∷ uses w f vs ++ term_uses w vs true x
 uses-Far w o f x vs = ap (λ f. f vs) (uses_at w (open_formula.Far o f x) (formula.rolls-Far o f x))
 
 pub uses-Pair : (w : World) (o : PairOp) (f g : Formula) (vs : List ℕ) → uses w (formula.Pair o f g) vs ≡ uses w f vs ++ uses w g vs

@@ -369,12 +369,12 @@ ArgsPrecede vs us = ⊥
 abbrev pub Precedes : Cell → Cell → Type 0
 Precedes a b = (a.item < b.item) ⊎ ((a.item ≡ b.item) × (ArgsPrecede a.args b.args ⊎ ((a.args ≡ b.args) × (a.instant < b.instant))))
 
-abbrev pub OrderLaw : Type 0
-OrderLaw = (w : World) (m n : ℕ) (a b : Cell) → m < n → slice_get (cells_of w) m ≡ Some a → slice_get (cells_of w) n ≡ Some b → Precedes a b
+abbrev pub CellsOrderLaw : Type 0
+CellsOrderLaw = (w : World) (m n : ℕ) (a b : Cell) → m < n → slice_get (cells_of w) m ≡ Some a → slice_get (cells_of w) n ≡ Some b → Precedes a b
 
 -- every cell has one number
-abbrev pub OnceLaw : Type 0
-OnceLaw = (w : World) (m n : ℕ) (cell : Cell) → slice_get (cells_of w) m ≡ Some cell → slice_get (cells_of w) n ≡ Some cell → m ≡ n
+abbrev pub CellsOnceLaw : Type 0
+CellsOnceLaw = (w : World) (m n : ℕ) (cell : Cell) → slice_get (cells_of w) m ≡ Some cell → slice_get (cells_of w) n ≡ Some cell → m ≡ n
 
 -- an item may have these arguments: one for each of its domains, each the index of a value
 pub record MayHave (w : World) (item : Item) (vs : List ℕ) : Type 0 where
@@ -382,8 +382,8 @@ pub record MayHave (w : World) (item : Item) (vs : List ℕ) : Type 0 where
   pub each : (k d v : ℕ) → slice_get item.args k ≡ Some d → slice_get vs k ≡ Some v → v < size_of w.domains d
 
 -- the cells are those of the items, of the arguments that they may have, and of the instants inside time
-abbrev pub StandsLaw : Type 0
-StandsLaw = (w : World) (cell : Cell) →
+abbrev pub CellsStandLaw : Type 0
+CellsStandLaw = (w : World) (cell : Cell) →
     ((n : ℕ) × (slice_get (cells_of w) n ≡ Some cell)) ↔ ((item : Item) × (slice_get w.items cell.item ≡ Some item) × MayHave w item cell.args × (cell.instant < w.instants))
 
 -- a table's entry at a cell's number is the cell's value

@@ -1,5 +1,6 @@
 pub mod World
 pub mod Cells
+pub mod Tables
 pub mod Values
 pub mod Truth
 pub mod Parts

@@ -3,7 +3,7 @@ ghost use Rattle.trio_types.specs.Laws.{NotLaw, AndLaw, OrLaw, ImpliesLaw, IffLa
 ghost use Rattle.trio_types.specs.Laws.{DistLaw, FutrLaw, PastLaw, LastsLaw, WithinFLaw, LastedLaw, WithinPLaw, NextTimeLaw, LastTimeLaw, UntilLaw, SinceLaw};
 ghost use Rattle.trio_types.specs.Laws.{OneOppositeLaw, FarOppositeLaw, QuantifierOppositeLaw, EmptyAheadLaw, EmptyBehindLaw};
 ghost use Rattle.trio_types.specs.Laws.{CompareLaw, LoneLaw, NoValueLaw, ConstantLaw, ReadLaw, OutsideLaw, NoPartLaw, PartLaw, TimesLaw};
-ghost use Rattle.trio_types.specs.Laws.{FalseLaw, TrueLaw, OrderLaw, OnceLaw, StandsLaw, EntryLaw, RowLaw, IsSpecification};
+ghost use Rattle.trio_types.specs.Laws.{FalseLaw, TrueLaw, CellsOrderLaw, CellsOnceLaw, CellsStandLaw, EntryLaw, RowLaw, IsSpecification};
 ghost use Rattle.trio_types.specs.Verdict.{parts_of};
 
 use crate::spec::Spec;
@@ -98,9 +98,9 @@ pub fn first_false_is_first()
 
 /// The cells stand in order, each once, and are those that the items have.
 pub fn cells_stand_in_order()
-    ensures order { OrderLaw }
-    ensures once { OnceLaw }
-    ensures stands { StandsLaw }
+    ensures order { CellsOrderLaw }
+    ensures once { CellsOnceLaw }
+    ensures stands { CellsStandLaw }
 {}
 
 /// The entry of a table at a cell's number is the cell's value, and row by row the table gives the values at the instants.

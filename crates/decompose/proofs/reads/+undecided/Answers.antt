@@ -13,7 +13,7 @@ use Rattle.trio_types.specs.declared.formula.Term.TheFolds.{the_lemmas}
 use Rattle.trio_types.specs.Cells.{cells_of}
 use Rattle.trio_core.specs.Three.{known_at}
 use Rattle.trio_core.specs.Stands.{world_of_core}
-use Rattle.trio_core.specs.Fits.{TermFits, IsCellRead}
+use Rattle.trio_core.specs.Fits.{NodeTermFits, IsCellRead}
 use Rattle.trio_core.proofs.TermCases.{term_of}
 use Rattle.trio_core.proofs.TermsFit.{times_part, sum_part, arg_values, args_known}
 use Rattle.branch_state.proofs.CodeReads.{flat_next}
@@ -81,7 +81,7 @@ undecided_of_term-returns-in_err-cell-in-Read t c =
     let i = c.args.instant in
     let n = c.in-Read.item in
     let args = c.as_slice.result.now in
-    let P : Term → Type 0 = λ x. TermFits w x e in
+    let P : Term → Type 0 = λ x. NodeTermFits w x e in
     let form : c.args.term.now ≡ term.Read n args = c.in-Read.is ∙ ap (term.Read n) (sym c.as_slice.ensures) in
     let fits = subst P form c.requires.term_fits in
     let told = c.cell_read.ensures (arg_values w e (known_at w sets) i args) (args_known w (known_at w sets) n args e i fits) in
@@ -96,7 +96,7 @@ undecided_of_term-is_undecided-requires-clause-cell_in t c =
     let i = c.args.instant in
     let n = c.in-Read.item in
     let args = c.as_slice.result.now in
-    let P : Term → Type 0 = λ x. TermFits w x e in
+    let P : Term → Type 0 = λ x. NodeTermFits w x e in
     let form : c.args.term.now ≡ term.Read n args = c.in-Read.is ∙ ap (term.Read n) (sym c.as_slice.ensures) in
     let fits = subst P form c.requires.term_fits in
     let told = c.cell_read.ensures (arg_values w e (known_at w sets) i args) (args_known w (known_at w sets) n args e i fits) in
@@ -112,7 +112,7 @@ undecided_of_term-returns-then-is_undecided t c =
     let i = c.args.instant in
     let n = c.in-Read.item in
     let args = c.as_slice.result.now in
-    let P : Term → Type 0 = λ x. TermFits w x e in
+    let P : Term → Type 0 = λ x. NodeTermFits w x e in
     let form : c.args.term.now ≡ term.Read n args = c.in-Read.is ∙ ap (term.Read n) (sym c.as_slice.ensures) in
     let fits = subst P form c.requires.term_fits in
     let told = c.cell_read.ensures (arg_values w e (known_at w sets) i args) (args_known w (known_at w sets) n args e i fits) in
@@ -129,7 +129,7 @@ undecided_of_term-returns-else-is_undecided t c =
     let i = c.args.instant in
     let n = c.in-Read.item in
     let args = c.as_slice.result.now in
-    let P : Term → Type 0 = λ x. TermFits w x e in
+    let P : Term → Type 0 = λ x. NodeTermFits w x e in
     let form : c.args.term.now ≡ term.Read n args = c.in-Read.is ∙ ap (term.Read n) (sym c.as_slice.ensures) in
     let fits = subst P form c.requires.term_fits in
     let told = c.cell_read.ensures (arg_values w e (known_at w sets) i args) (args_known w (known_at w sets) n args e i fits) in
@@ -144,7 +144,7 @@ undecided_of_term-undecided_of_term-requires t c =
     let sets = c.args.under.doms.now in
     let e = c.args.under.values.now in
     let i = c.args.instant in
-    let P : Term → Type 0 = λ x. TermFits w x e in
+    let P : Term → Type 0 = λ x. NodeTermFits w x e in
     let whole = subst P c.in-Times.is c.requires.term_fits in
     let part = times_part w c.in-Times.field-0 c.in-Times.factor e whole in
     (search (ints, rules, the_lemmas), (c.requires.sets_fit, (subst P (sym c.get.ensures) part, c.requires.instant_in)))

@@ -2,7 +2,8 @@ use Rattle.std.proofs.Common.{◌≡◌, ◌+◌, drop, refl, get_or, length, sl
 use Rattle.std.proofs.lemmas.Option.{slice_get-get_or, slice_get_read, slice_get_within}
 use Rattle.trio_types.specs.Verdict.{parts_of, world_of}
 use Rattle.trio_types.proofs.Specs.{formed, argument_domain}
-use Rattle.history_table.specs.Rows.{args_of, arg_indexes}
+use Rattle.history_table.specs.Rows.{arg_indexes}
+use Rattle.trio_types.specs.Kinds.{args_of}
 use Rattle.history_table.proofs.Arguments.{other_number, behind, behind_start, found_index, no_index, all_found}
 use Rattle.history_table.proofs.rows.arg_indexes.Goals as goal
 

@@ -3,7 +3,7 @@ use Rattle.std.proofs.lemmas.Option.{slice_get-get_or}
 use Rattle.trio_types.specs.Verdict.{world_of}
 use Rattle.history_table.specs.Printed.{row_name}
 use Rattle.history_table.specs.Texts.{entry_behind_blank}
-use Rattle.history_table.specs.Decoding.{row_of}
+use Rattle.history_table.specs.Decoding.{row_from}
 use Rattle.history_table.proofs.PrintedLines.{flat_more, flat_whole, line_is}
 use Rattle.history_table.proofs.texts.add_line.Goals as goal
 
@@ -25,6 +25,6 @@ returns c =
     let f = entry_behind_blank w c.value_domain-domain.result in
     let all = c.args.entries.now in
     let listed = flat_whole f all c.loop-entry.entry-index (string_bytes c.loop-entry.text) (string_bytes c.push_str.new.self ++ flat_map f all) c.loop-entry-test.false c.loop-entry.invariant in
-    line_is (string_bytes c.args.text.now) (row_name w (row_of c.args.row.now)) (flat_map f all) (string_bytes c.add_name.new.text) (string_bytes c.push_str.new.self) (string_bytes c.loop-entry.text)
+    line_is (string_bytes c.args.text.now) (row_name w (row_from c.args.row.now)) (flat_map f all) (string_bytes c.add_name.new.text) (string_bytes c.push_str.new.self) (string_bytes c.loop-entry.text)
     (string_bytes c.push_str-2.new.self) c.in_ok-add_name.ensures c.in_ok-push_str.ensures.bytes listed c.in_ok-push_str-2.ensures.bytes
-    ∙ ap (λ d. string_bytes c.args.text.now ++ (row_name w (row_of c.args.row.now) ++ (58 ∷ (flat_map (entry_behind_blank w d) all ++ 10 ∷ [])))) c.value_domain-domain.ensures.is
+    ∙ ap (λ d. string_bytes c.args.text.now ++ (row_name w (row_from c.args.row.now) ++ (58 ∷ (flat_map (entry_behind_blank w d) all ++ 10 ∷ [])))) c.value_domain-domain.ensures.is

@@ -3,7 +3,7 @@ use Rattle.trio_types.specs.Cells.{rows_of, cells_of}
 use Rattle.trio_types.specs.Verdict.{world_of}
 use Rattle.trio_types.proofs.CellNumbers.{cell_count_is}
 use Rattle.history_table.specs.Texts.{lines_text, given_text}
-use Rattle.history_table.specs.Decoding.{row_of}
+use Rattle.history_table.specs.Decoding.{row_from}
 use Rattle.history_table.proofs.PrintedLines.{line_more, lines_whole}
 use Rattle.history_table.proofs.texts.add_lines.Goals as goal
 
@@ -26,7 +26,7 @@ loop-row-preserved c =
     let w = world_of c.args.spec.now in
     let k = c.loop-row.row in
     let rest = c.loop-row.rest.now in (
-      line_more w (rows_of w) rest c.split_at.result.1.now c.split_at.result.0.now k (row_of c.in_ok-parts.parts) (string_bytes c.loop-row.text) (string_bytes c.add_line.new.text)
+      line_more w (rows_of w) rest c.split_at.result.1.now c.split_at.result.0.now k (row_from c.in_ok-parts.parts) (string_bytes c.loop-row.text) (string_bytes c.add_line.new.text)
           (string_bytes c.args.text.now ++ lines_text w (rows_of w) c.args.entries.now) c.in_ok-parts.ensures c.split_at.ensures.front c.split_at.ensures.back c.loop-row.invariant.0 c.in_ok-add_line.ensures,
       omega (arith, c.split_at.ensures.back_len, c.loop-row.invariant.1),
     )

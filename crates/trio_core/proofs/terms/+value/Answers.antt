@@ -24,7 +24,7 @@ use Rattle.trio_core.specs.declared.nodes.Known.{Known}
 use Rattle.trio_core.specs.declared.nodes.Known.TheVariants.{One}
 use Rattle.trio_core.specs.Three.{known_both, known_map, known_at, known_sum, value3}
 use Rattle.trio_core.specs.Stands.{world_of_core}
-use Rattle.trio_core.specs.Fits.{TermFits, IsCellRead}
+use Rattle.trio_core.specs.Fits.{NodeTermFits, IsCellRead}
 use Rattle.trio_core.proofs.KnownAt.{same_One}
 use Rattle.trio_core.proofs.Value3At.{signed_value3, value3-Number, value3-Value, value3-Var, value3-Sum, value3-Times}
 use Rattle.trio_core.proofs.KnownAt.{signed_one, value_if_known, known_sum_more}
@@ -463,7 +463,7 @@ term_value-bounds-under-level t c =
     let w = world_of_core core in
     let e = c.args.under.values.now in
     let fits = c.requires.term_fits in
-    let P : Term → Type 0 = λ x. TermFits w x e in
+    let P : Term → Type 0 = λ x. NodeTermFits w x e in
     let whole = subst P c.in-Var.is fits in
     ltb-true c.in-Var.level (length e) (sym (reaches-Var w c.in-Var.level (length e) whole.reads) ∙ term_reaches w (term.Var c.in-Var.level) e whole)
 
@@ -473,7 +473,7 @@ term_value-term_value-requires t c =
     let w = world_of_core core in
     let e = c.args.under.values.now in
     let fits = c.requires.term_fits in
-    let P : Term → Type 0 = λ x. TermFits w x e in
+    let P : Term → Type 0 = λ x. NodeTermFits w x e in
     let n = c.in-Times.number in
     let factor = c.in-Times.factor in
     let whole = subst P c.in-Times.is fits in
@@ -489,7 +489,7 @@ term_value-times-requires-clause-near t c =
     let look = known_at w sets in
     let i = c.args.instant in
     let fits = c.requires.term_fits in
-    let P : Term → Type 0 = λ x. TermFits w x e in
+    let P : Term → Type 0 = λ x. NodeTermFits w x e in
     let n = c.in-Times.number in
     let factor = c.in-Times.factor in
     let whole = subst P c.in-Times.is fits in
@@ -505,7 +505,7 @@ term_value-times-requires-clause-product_near t c =
     let look = known_at w sets in
     let i = c.args.instant in
     let fits = c.requires.term_fits in
-    let P : Term → Type 0 = λ x. TermFits w x e in
+    let P : Term → Type 0 = λ x. NodeTermFits w x e in
     let n = c.in-Times.number in
     let factor = c.in-Times.factor in
     let whole = subst P c.in-Times.is fits in
@@ -543,7 +543,7 @@ term_value-returns-in-Var t c =
     let look = known_at w sets in
     let i = c.args.instant in
     let fits = c.requires.term_fits in
-    let P : Term → Type 0 = λ x. TermFits w x e in
+    let P : Term → Type 0 = λ x. NodeTermFits w x e in
     let level = c.in-Var.level in
     let z = get_or e level (pos 0) in
     let known = value3-Var w level e look i in

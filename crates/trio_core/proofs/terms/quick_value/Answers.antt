@@ -8,7 +8,7 @@ use Rattle.trio_types.proofs.Bounded.{passed}
 use Rattle.trio_core.specs.declared.nodes.Known.TheVariants.{One}
 use Rattle.trio_core.specs.Three.{known_at, value3}
 use Rattle.trio_core.specs.Stands.{world_of_core}
-use Rattle.trio_core.specs.Fits.{TermFits}
+use Rattle.trio_core.specs.Fits.{NodeTermFits}
 use Rattle.trio_core.proofs.Value3At.{value3-Number, value3-Value, value3-Var}
 use Rattle.trio_core.proofs.TermsAt.{reaches-Var}
 use Rattle.trio_core.proofs.TermsFit.{term_reaches, term_near}
@@ -18,7 +18,7 @@ pub bounds-under-level : goal.bounds-under-level
 bounds-under-level c =
     let w = world_of_core c.args.under.now.core.now in
     let e = c.args.under.now.values.now in
-    let P : Term → Type 0 = λ x. TermFits w x e in
+    let P : Term → Type 0 = λ x. NodeTermFits w x e in
     let whole = subst P c.in-Var.is c.requires.term_fits in
     ltb-true c.in-Var.level (length e) (sym (reaches-Var w c.in-Var.level (length e) whole.reads) ∙ term_reaches w (term.Var c.in-Var.level) e whole)
 
@@ -47,7 +47,7 @@ returns-in-Var c =
     let e = c.args.under.now.values.now in
     let look = known_at w sets in
     let i = c.args.instant in
-    let P : Term → Type 0 = λ x. TermFits w x e in
+    let P : Term → Type 0 = λ x. NodeTermFits w x e in
     let level = c.in-Var.level in
     let z = get_or e level (pos 0) in
     let known = value3-Var w level e look i in

@@ -2,7 +2,7 @@
 use Rattle.std.proofs.Common.{◌*◌, ap, ◌∙◌, arith}
 use Rattle.trio_limits.specs.Given.{given_count}
 use Rattle.trio_limits.specs.Ground.{world_of_ground}
-use Rattle.trio_limits.specs.Counting.{leaf, arguments_of, parts_of, term_counts_of}
+use Rattle.trio_limits.specs.Counting.{leaf, arguments_of, part_counts, term_counts_of}
 use Rattle.trio_limits.proofs.TermCounts.{counts-Number, counts-Value, counts-Var, counts-Read, counts-Sum, counts-Times, arguments_next, parts_next}
 use Rattle.trio_limits.proofs.terms.+terms.Goals as goal
 
@@ -30,7 +30,7 @@ counts_of-returns-in-Read t c =
 pub counts_of-returns-in-Sum : goal.counts_of-returns-in-Sum
 counts_of-returns-in-Sum t c =
     rw c.in-Sum.is (counts-Sum (world_of_ground c.args.ground.now) c.args.variables.now c.in-Sum.parts c.parts_of-parts.result
-    (c.parts_of-parts.ensures ∙ ap (parts_of (world_of_ground c.args.ground.now) c.args.variables.now) c.as_slice-in-Sum.ensures) c.max-in-Sum.result
+    (c.parts_of-parts.ensures ∙ ap (part_counts (world_of_ground c.args.ground.now) c.args.variables.now) c.as_slice-in-Sum.ensures) c.max-in-Sum.result
     c.saturating_add-bracketed.result c.max-in-Sum.ensures c.saturating_add-bracketed.ensures)
 
 pub counts_of-returns-in-Times : goal.counts_of-returns-in-Times

@@ -3,7 +3,7 @@ use Rattle.std.proofs.Common.{[], true, refl}
 use Rattle.trio_syntax.specs.declared.tree.TermTree.{TermTree}
 use Rattle.trio_syntax.specs.declared.tree.PartTree.{PartTree, out-PartTree}
 use Rattle.trio_scope.specs.declared.walk.Role.TheVariants as role
-use Rattle.trio_scope.specs.Gather.{variables_of, places_in_term}
+use Rattle.trio_scope.specs.Gather.{variables_from, places_in_term}
 use Rattle.trio_scope.proofs.Least.{least-append, least_next}
 use Rattle.trio_scope.proofs.Gathers.{in-term, in-Number, in-Truth, in-Named, in-Call, in-Sum, in-Times}
 use Rattle.trio_scope.proofs.walk.+terms.Goals as goal
@@ -31,11 +31,11 @@ first_in_shape-returns-in-Times g t c = rw (c.in-Times.is, in-Times, ← c.get.e
 
 pub first_in_arguments-loop-argument-preserved : goal.first_in_arguments-loop-argument-preserved
 first_in_arguments-loop-argument-preserved g t c =
-    least_next (λ (a : TermTree). places_in_term (g.R.Rule.finding c.args.rule.now) a (variables_of c.args.around.now) role.Argument true) [] refl
+    least_next (λ (a : TermTree). places_in_term (g.R.Rule.finding c.args.rule.now) a (variables_from c.args.around.now) role.Argument true) [] refl
     c.loop-argument.argument-index c.argument-item.result c.loop-argument-test.true c.argument-item.is c.loop-argument.invariant
     c.first_in_term.ensures c.earlier-first.ensures
 
 pub first_in_sum-loop-part-preserved : goal.first_in_sum-loop-part-preserved
 first_in_sum-loop-part-preserved g t c =
-    least_next (λ (p : PartTree). places_in_term (g.R.Rule.finding c.args.rule.now) (out-PartTree p).term (variables_of c.args.around.now) role.Part c.args.inside) []
+    least_next (λ (p : PartTree). places_in_term (g.R.Rule.finding c.args.rule.now) (out-PartTree p).term (variables_from c.args.around.now) role.Part c.args.inside) []
     refl c.loop-part.part-index c.part-item.result c.loop-part-test.true c.part-item.is c.loop-part.invariant c.first_in_term.ensures c.earlier-first.ensures

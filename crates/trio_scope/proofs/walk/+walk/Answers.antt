@@ -3,7 +3,7 @@ use Rattle.std.proofs.Common.{◌≡◌, List, [], ◌∷◌, ◌++◌, refl, �
 use Rattle.std.proofs.lemmas.List.{map-append}
 use Rattle.trio_syntax.specs.declared.tree.FormulaTree.{FormulaTree}
 use Rattle.trio_scope.specs.Places.{least}
-use Rattle.trio_scope.specs.Gather.{Variable, Finding, variables_of, places_in}
+use Rattle.trio_scope.specs.Gather.{Variable, Finding, variables_from, places_in}
 use Rattle.trio_scope.proofs.Least.{least-append, least_both, least_next}
 use Rattle.trio_scope.proofs.Gathers.{in-Lone, in-Compare, in-Not, in-And, in-Or, in-Implies, in-Iff, in-Quantified, in-One, in-Far, in-Pair}
 use Rattle.trio_scope.proofs.walk.+walk.Goals as goal
@@ -85,7 +85,7 @@ first_in-returns-in_ok-right-in-Pair-clause-found g t c =
 pub first_among-loop-formula-preserved : goal.first_among-loop-formula-preserved
 first_among-loop-formula-preserved g t c = (
   c.in_ok-first_in.ensures.kept ∙ c.loop-formula.invariant.0,
-  least_next (λ (f : FormulaTree). places_in (g.R.Rule.finding c.args.rule.now) f (variables_of c.args.around.now.items)) [] refl
+  least_next (λ (f : FormulaTree). places_in (g.R.Rule.finding c.args.rule.now) f (variables_from c.args.around.now.items)) [] refl
       c.loop-formula.formula-index c.formula-item.result c.loop-formula-test.true c.formula-item.is c.loop-formula.invariant.1
       (rw (← c.loop-formula.invariant.0) c.in_ok-first_in.ensures.found) c.earlier-first.ensures,
 )
@@ -93,7 +93,7 @@ first_among-loop-formula-preserved g t c = (
 pub first_under-returns-clause-found : goal.first_under-returns-clause-found
 first_under-returns-clause-found g t c =
     let rule : Finding = g.R.Rule.finding c.args.rule.now in
-    let e : List Variable = variables_of c.args.around.now.items in
+    let e : List Variable = variables_from c.args.around.now.items in
     let x : Variable = record { name = c.args.binder.variable.now.name; domain = c.args.binder.domain.now } in
     let grown : c.in_ok-inside.inside ≡ least (places_in rule c.args.body.now (e ++ x ∷ [])) =
     rw (c.in_ok-push.ensures.items, map-append) at c.in_ok-inside.ensures.found in

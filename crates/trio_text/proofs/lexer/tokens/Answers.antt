@@ -1,13 +1,13 @@
 -- each step of the loop goes past a blank, a comment or a token
 use Rattle.std.proofs.Common.{◌+◌, List, length, subst, sym, ap, ◌∙◌, arith}
 use Rattle.trio_text.specs.declared.token.Token.{Token}
-use Rattle.trio_text.specs.Reading.{Reads}
+use Rattle.trio_text.specs.Reading.{ReadsTokens}
 use Rattle.trio_text.proofs.Steps.{reads_none, reads_past, all_read, no_error, reads_next, reads_all, reads_fault, some_left}
 use Rattle.trio_text.proofs.lexer.tokens.Goals as goal
 
 pub loop-lexer-init : goal.loop-lexer-init
 loop-lexer-init c =
-    subst (λ (ts : List Token). Reads 0 1 c.args.text.now ts 0 1 c.args.text.now) (sym c.new-found.ensures) (reads_none 0 1 c.args.text.now)
+    subst (λ (ts : List Token). ReadsTokens 0 1 c.args.text.now ts 0 1 c.args.text.now) (sym c.new-found.ensures) (reads_none 0 1 c.args.text.now)
 
 pub returns-in_err-token : goal.returns-in_err-token
 returns-in_err-token c =
@@ -20,7 +20,7 @@ loop-lexer-smaller-else-is_err c =
 
 pub loop-lexer-preserved-else-is_err : goal.loop-lexer-preserved-else-is_err
 loop-lexer-preserved-else-is_err c =
-    subst (λ (ts : List Token). Reads 0 1 c.args.text.now ts c.token.new.self.place (c.token.new.self.newlines + 1) c.token.new.self.rest.now) (sym (no_error c.push.result c.if-is_err.ensures.value c.push.ensures.ok))
+    subst (λ (ts : List Token). ReadsTokens 0 1 c.args.text.now ts c.token.new.self.place (c.token.new.self.newlines + 1) c.token.new.self.rest.now) (sym (no_error c.push.result c.if-is_err.ensures.value c.push.ensures.ok))
     (reads_next _ _ _ _ _ _ _ _ _ _ _ _ c.loop-lexer.invariant c.if-not-skips.ensures.stays c.in_ok-token.ensures.read)
 
 pub loop-lexer-preserved : goal.loop-lexer-preserved

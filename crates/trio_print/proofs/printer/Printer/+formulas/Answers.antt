@@ -7,7 +7,7 @@ use Rattle.trio_print.specs.Pieces.{Piece}
 use Rattle.trio_text.specs.declared.token.Reserved.TheVariants as word
 use Rattle.trio_text.specs.declared.token.Symbol.TheVariants as symbol
 use Rattle.trio_syntax.specs.Words.{far_word, pair_word}
-use Rattle.trio_print.specs.Canonical.{sign, word_, comma, spaced, joined, in_round, term_plain, text_of_formula, quantified_text}
+use Rattle.trio_print.specs.Canonical.{sign, word_, comma, spaced, joined_pieces, in_round, term_plain, text_of_formula, quantified_text}
 use Rattle.trio_print.proofs.TextsAt.{text_of_formula-Lone, text_of_formula-Compare, text_of_formula-Not, text_of_formula-Implies, text_of_formula-Iff, text_of_formula-All, text_of_formula-Ex, text_of_formula-One, text_of_formula-Far, text_of_formula-Pair, plain-And, plain-Or}
 use Rattle.trio_print.proofs.Combining.{told, told_ok, nothing, behind, joined_more, joined_whole, two_operands}
 use Rattle.trio_print.proofs.printer.Printer.+formulas.Goals as goal
@@ -30,13 +30,13 @@ formula-returns-in-Not t c =
 pub formula-returns-in-And : goal.formula-returns-in-And
 formula-returns-in-And t c =
     rw c.in-And.is (told_ok c.groups.result c.args.self.now c.groups.new.self
-    (λ parts names. ap (λ fs. joined (spaced symbol.And) (map (λ f. (text_of_formula parts f).grouped names) fs)) c.as_slice.ensures
+    (λ parts names. ap (λ fs. joined_pieces (spaced symbol.And) (map (λ f. (text_of_formula parts f).grouped names) fs)) c.as_slice.ensures
     ∙ sym (plain-And parts c.in-And.parts names)) c.groups.ensures)
 
 pub formula-returns-in-Or : goal.formula-returns-in-Or
 formula-returns-in-Or t c =
     rw c.in-Or.is (told_ok c.groups-in-Or.result c.args.self.now c.groups-in-Or.new.self
-    (λ parts names. ap (λ fs. joined (spaced symbol.Or) (map (λ f. (text_of_formula parts f).grouped names) fs)) c.as_slice-in-Or.ensures
+    (λ parts names. ap (λ fs. joined_pieces (spaced symbol.Or) (map (λ f. (text_of_formula parts f).grouped names) fs)) c.as_slice-in-Or.ensures
     ∙ sym (plain-Or parts c.in-Or.parts names)) c.groups-in-Or.ensures)
 
 pub formula-returns-in_ok-spaced-in-Implies : goal.formula-returns-in_ok-spaced-in-Implies

@@ -2,7 +2,7 @@
 use Rattle.std.proofs.Common.{◌++◌, map, refl, sym, ap, ap₂, ◌∙◌}
 use Rattle.trio_text.specs.declared.token.Symbol.TheVariants as symbol
 use Rattle.trio_types.specs.Verdict.{parts_of}
-use Rattle.trio_print.specs.Canonical.{number_, name_, spaced, listed, comma, sum_text, term_plain, text_of_term}
+use Rattle.trio_print.specs.Canonical.{number_, name_, spaced, listed_pieces, comma, sum_text, term_plain, text_of_term}
 use Rattle.trio_print.specs.Printing.{text_of_part, names_in}
 use Rattle.trio_print.proofs.TextsAt.{text_of_term-Number, text_of_term-Value, text_of_term-Var, text_of_term-Sum, text_of_term-Times, plain-Read}
 use Rattle.trio_print.proofs.Combining.{told, told_ok, told_here, nothing, behind, joined_more, joined_whole, sum_more, sum_whole}
@@ -24,7 +24,7 @@ pub term-returns-in_ok-arguments-in-Read : goal.term-returns-in_ok-arguments-in-
 term-returns-in_ok-arguments-in-Read t c =
     let parts = parts_of c.args.self.now.spec.now in
     let names = names_in c.args.self.now in
-    rw c.in-Read.is (told_here (ap₂ (λ n xs. name_ n ++ listed (map (λ x. term_plain parts x names) xs)) c.item_name.ensures c.as_slice.ensures
+    rw c.in-Read.is (told_here (ap₂ (λ n xs. name_ n ++ listed_pieces (map (λ x. term_plain parts x names) xs)) c.item_name.ensures c.as_slice.ensures
     ∙ sym (plain-Read parts c.in-Read.item c.in-Read.arguments names)) (behind c.in_ok-name-in-Read.ensures c.in_ok-arguments-in-Read.ensures))
 
 pub term-returns-in-Sum : goal.term-returns-in-Sum

@@ -3,7 +3,7 @@ use Rattle.std.proofs.Common.{rules, ◌∷◌, ◌++◌, [], refl, sym, ap, ◌
 use Rattle.trio_text.specs.declared.token.Symbol.TheVariants as signs
 use Rattle.trio_syntax.specs.declared.tree.FormulaTree.TheVariants as formulas
 use Rattle.trio_syntax.specs.Forms.{row, formula, disj, conj, unary, primary, term, many, seq}
-use Rattle.trio_syntax.specs.Grammar.{a, a_sign, a_name, behind, before, both, optional, round, ref, bound, distant, paired, one_operation, far_operation, pair_operation, atom, and_of, or_of, arrowed}
+use Rattle.trio_syntax.specs.Grammar.{a, a_sign, a_name, behind_sign, before_sign, both, optional, round, ref, bound, distant, paired, one_operation, far_operation, pair_operation, atom, and_of, or_of, arrowed}
 use Rattle.trio_syntax.specs.Forms.{arrow, either}
 use Rattle.trio_syntax.proofs.Left.{left_left, left_read, left_stuck, left_row, left_right, left_first, left_seq, seq_stuck, reads_one, reads_empty, fronts_taken}
 use Rattle.trio_syntax.proofs.Filled.{fill}
@@ -16,7 +16,7 @@ use Rattle.trio_syntax.proofs.parser.Parser.+formula.Goals as goal
 pub round-returns-in_err-sign : goal.round-returns-in_err-sign
 round-returns-in_err-sign t c =
     passed_on (round (row formula)) (a_sign signs.LeftRound) _ _ _ _ _ c.from_residual.ensures.1 c.in_err-sign.ensures
-    (λ stuck. seq_stuck (fill (before (row formula) signs.RightRound)) refl stuck)
+    (λ stuck. seq_stuck (fill (before_sign (row formula) signs.RightRound)) refl stuck)
 
 pub round-formula_until-requires : goal.round-formula_until-requires
 round-formula_until-requires t c =
@@ -24,7 +24,7 @@ round-formula_until-requires t c =
 
 pub round-returns : goal.round-returns
 round-returns t c =
-    handed_on (round (row formula)) (before (row formula) signs.RightRound) _ _ _ _ (left_seq refl c.in_ok-sign.ensures) c.formula_until.ensures
+    handed_on (round (row formula)) (before_sign (row formula) signs.RightRound) _ _ _ _ (left_seq refl c.in_ok-sign.ensures) c.formula_until.ensures
 
 -- formula_until
 
@@ -34,12 +34,12 @@ formula_until-formula-requires t c =
 
 pub formula_until-returns-in_err-inner : goal.formula_until-returns-in_err-inner
 formula_until-returns-in_err-inner t c =
-    passed_on (before (row formula) c.args.close) (row formula) _ _ _ _ _ c.from_residual.ensures.1 c.in_err-inner.ensures
+    passed_on (before_sign (row formula) c.args.close) (row formula) _ _ _ _ _ c.from_residual.ensures.1 c.in_err-inner.ensures
     (λ stuck. seq_stuck (fill (a_sign c.args.close)) c.requires stuck)
 
 pub formula_until-returns-in_err-sign : goal.formula_until-returns-in_err-sign
 formula_until-returns-in_err-sign t c =
-    passed_on (before (row formula) c.args.close) (a_sign c.args.close) _ _ _ _ _ c.from_residual-in_err-sign.ensures.1 c.in_err-sign.ensures
+    passed_on (before_sign (row formula) c.args.close) (a_sign c.args.close) _ _ _ _ _ c.from_residual-in_err-sign.ensures.1 c.in_err-sign.ensures
     (λ stuck. left_stuck (left_seq c.requires c.in_ok-inner.ensures) stuck)
 
 pub formula_until-returns : goal.formula_until-returns
@@ -51,7 +51,7 @@ formula_until-returns t c =
 pub bound-returns-in_err-name : goal.bound-returns-in_err-name
 bound-returns-in_err-name t c =
     passed_on bound a_name _ _ _ _ _ c.from_residual.ensures.1 c.in_err-name.ensures
-    (λ stuck. seq_stuck (fill (behind signs.Colon (both ref (round (row formula))))) refl stuck)
+    (λ stuck. seq_stuck (fill (behind_sign signs.Colon (both ref (round (row formula))))) refl stuck)
 
 pub bound-returns-in_err-sign : goal.bound-returns-in_err-sign
 bound-returns-in_err-sign t c =
@@ -81,7 +81,7 @@ bound-returns t c =
 pub distant-returns-in_err-sign : goal.distant-returns-in_err-sign
 distant-returns-in_err-sign t c =
     passed_on distant (a_sign signs.LeftRound) _ _ _ _ _ c.from_residual.ensures.1 c.in_err-sign.ensures
-    (λ stuck. seq_stuck (fill (both (before (row formula) signs.Comma) (before (row term) signs.RightRound))) refl stuck)
+    (λ stuck. seq_stuck (fill (both (before_sign (row formula) signs.Comma) (before_sign (row term) signs.RightRound))) refl stuck)
 
 pub distant-formula_until-requires : goal.distant-formula_until-requires
 distant-formula_until-requires t c =
@@ -89,8 +89,8 @@ distant-formula_until-requires t c =
 
 pub distant-returns-in_err-part : goal.distant-returns-in_err-part
 distant-returns-in_err-part t c =
-    passed_on distant (before (row formula) signs.Comma) _ _ _ _ _ c.from_residual-in_err-part.ensures.1 c.in_err-part.ensures
-    (λ stuck. left_stuck (left_seq refl c.in_ok-sign.ensures) (seq_stuck (fill (before (row term) signs.RightRound)) refl stuck))
+    passed_on distant (before_sign (row formula) signs.Comma) _ _ _ _ _ c.from_residual-in_err-part.ensures.1 c.in_err-part.ensures
+    (λ stuck. left_stuck (left_seq refl c.in_ok-sign.ensures) (seq_stuck (fill (before_sign (row term) signs.RightRound)) refl stuck))
 
 pub distant-returns-in_err-distance : goal.distant-returns-in_err-distance
 distant-returns-in_err-distance t c =
@@ -111,7 +111,7 @@ distant-returns t c =
 pub paired-returns-in_err-sign : goal.paired-returns-in_err-sign
 paired-returns-in_err-sign t c =
     passed_on paired (a_sign signs.LeftRound) _ _ _ _ _ c.from_residual.ensures.1 c.in_err-sign.ensures
-    (λ stuck. seq_stuck (fill (both (before (row formula) signs.Comma) (before (row formula) signs.RightRound))) refl stuck)
+    (λ stuck. seq_stuck (fill (both (before_sign (row formula) signs.Comma) (before_sign (row formula) signs.RightRound))) refl stuck)
 
 pub paired-formula_until-requires : goal.paired-formula_until-requires
 paired-formula_until-requires t c =
@@ -119,8 +119,8 @@ paired-formula_until-requires t c =
 
 pub paired-returns-in_err-left : goal.paired-returns-in_err-left
 paired-returns-in_err-left t c =
-    passed_on paired (before (row formula) signs.Comma) _ _ _ _ _ c.from_residual-in_err-left.ensures.1 c.in_err-left.ensures
-    (λ stuck. left_stuck (left_seq refl c.in_ok-sign.ensures) (seq_stuck (fill (before (row formula) signs.RightRound)) refl stuck))
+    passed_on paired (before_sign (row formula) signs.Comma) _ _ _ _ _ c.from_residual-in_err-left.ensures.1 c.in_err-left.ensures
+    (λ stuck. left_stuck (left_seq refl c.in_ok-sign.ensures) (seq_stuck (fill (before_sign (row formula) signs.RightRound)) refl stuck))
 
 pub paired-formula_until-requires-2 : goal.paired-formula_until-requires-2
 paired-formula_until-requires-2 t c =
@@ -128,7 +128,7 @@ paired-formula_until-requires-2 t c =
 
 pub paired-returns-in_err-right : goal.paired-returns-in_err-right
 paired-returns-in_err-right t c =
-    passed_on paired (before (row formula) signs.RightRound) _ _ _ _ _ c.from_residual-in_err-right.ensures.1 c.in_err-right.ensures
+    passed_on paired (before_sign (row formula) signs.RightRound) _ _ _ _ _ c.from_residual-in_err-right.ensures.1 c.in_err-right.ensures
     (λ stuck. left_stuck (left_seq refl c.in_ok-sign.ensures) (left_stuck (left_seq refl c.in_ok-left.ensures) (stuck)))
 
 pub paired-returns : goal.paired-returns
@@ -144,7 +144,7 @@ conj-unary-requires t c =
 pub conj-returns-in_err-first : goal.conj-returns-in_err-first
 conj-returns-in_err-first t c =
     passed_on (row conj) (row unary) _ _ _ _ _ c.from_residual.ensures.1 c.in_err-first.ensures
-    (λ stuck. left_stuck (left_row conj) (seq_stuck (fill (many (behind signs.And (row unary)))) refl stuck))
+    (λ stuck. left_stuck (left_row conj) (seq_stuck (fill (many (behind_sign signs.And (row unary)))) refl stuck))
 
 pub conj-loop-self-init : goal.conj-loop-self-init
 conj-loop-self-init t c =
@@ -276,7 +276,7 @@ primary-formula_until-requires t c =
 
 pub primary-returns-then-takes_sign : goal.primary-returns-then-takes_sign
 primary-returns-then-takes_sign t c =
-    handed_on (row primary) (before (row formula) signs.RightRound) _ _ _ _ (left_left (left_row primary) (left_left (left_first refl (fronts_taken c.if-takes_sign.ensures.taken)) (left_seq refl (reads_one c.if-takes_sign.ensures.taken)))) c.formula_until.ensures
+    handed_on (row primary) (before_sign (row formula) signs.RightRound) _ _ _ _ (left_left (left_row primary) (left_left (left_first refl (fronts_taken c.if-takes_sign.ensures.taken)) (left_seq refl (reads_one c.if-takes_sign.ensures.taken)))) c.formula_until.ensures
 
 pub primary-bound-requires : goal.primary-bound-requires
 primary-bound-requires t c =

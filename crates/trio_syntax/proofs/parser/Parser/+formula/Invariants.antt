@@ -2,7 +2,7 @@
 use Rattle.std.proofs.Common.{◌+◌, ◌*◌, ◌++◌, length}
 use Rattle.trio_text.specs.declared.token.Symbol.TheVariants as signs
 use Rattle.trio_syntax.specs.Forms.{row, disj, conj, unary, many, seq}
-use Rattle.trio_syntax.specs.Grammar.{a_sign, behind, and_of}
+use Rattle.trio_syntax.specs.Grammar.{a_sign, behind_sign, and_of}
 use Rattle.trio_syntax.specs.Exact.{spot}
 use Rattle.trio_syntax.proofs.Left.{Left}
 use Rattle.trio_syntax.proofs.parser.Parser.+formula.Given as goal
@@ -41,7 +41,7 @@ abbrev pub decreases-formula : goal.decreases-formula
 decreases-formula l = 8 * length l.self.now.rest.now + 6
 
 abbrev pub invariant-conj-loop-self : goal.invariant-conj-loop-self
-invariant-conj-loop-self l = Left (row conj) (spot l.fn.self) (many (behind signs.And (row unary))) (λ parts. l.parts ++ parts) (spot l.self)
+invariant-conj-loop-self l = Left (row conj) (spot l.fn.self) (many (behind_sign signs.And (row unary))) (λ parts. l.parts ++ parts) (spot l.self)
 
 abbrev pub decreases-conj-loop-self : goal.decreases-conj-loop-self
 decreases-conj-loop-self l = length l.self.rest.now

@@ -3,7 +3,7 @@ use Rattle.std.proofs.Common.{rules, [], ◌∷◌, ◌++◌, refl, sym, ap, ◌
 use Rattle.trio_text.specs.declared.token.Symbol.TheVariants as signs
 use Rattle.trio_syntax.specs.declared.tree.PartTree.{PartTree}
 use Rattle.trio_syntax.specs.Forms.{row, term, summand, factor, basic, many}
-use Rattle.trio_syntax.specs.Grammar.{a_sign, a_name, behind, listed, arguments, more_summands, sum, product, named}
+use Rattle.trio_syntax.specs.Grammar.{a_sign, a_name, behind_sign, listed, arguments, more_summands, sum, product, named}
 use Rattle.trio_syntax.proofs.Left.{left_left, left_read, left_stuck, left_row, left_right, left_first, left_seq, seq_stuck, reads_one, reads_empty, fronts_taken}
 use Rattle.trio_syntax.proofs.Filled.{fill}
 use Rattle.trio_syntax.proofs.Exits.{passed_on, handed_on, reads_as, reads_signed}
@@ -168,7 +168,7 @@ terms-term-requires t c = search rules
 
 pub terms-returns-in_err-first : goal.terms-returns-in_err-first
 terms-returns-in_err-first t c =
-    passed_on (listed signs.Comma (row term)) (row term) _ _ _ _ _ c.from_residual.ensures.1 c.in_err-first.ensures (λ stuck. seq_stuck (fill (many (behind signs.Comma (row term)))) refl stuck)
+    passed_on (listed signs.Comma (row term)) (row term) _ _ _ _ _ c.from_residual.ensures.1 c.in_err-first.ensures (λ stuck. seq_stuck (fill (many (behind_sign signs.Comma (row term)))) refl stuck)
 
 pub terms-loop-self-init : goal.terms-loop-self-init
 terms-loop-self-init t c = loop_as (λ vs. vs) c.append.new.list (first_part c.in_ok-first.first c.in_ok-append.ensures c.new-terms.ensures) (left_seq refl c.in_ok-first.ensures)

@@ -4,7 +4,7 @@ use Rattle.trio_text.specs.declared.token.Symbol.TheVariants as signs
 use Rattle.trio_syntax.specs.declared.tree.TermTree.{TermTree}
 use Rattle.trio_syntax.specs.declared.tree.PartTree.{PartTree}
 use Rattle.trio_syntax.specs.Forms.{row, term, many}
-use Rattle.trio_syntax.specs.Grammar.{listed, behind, more_summands, sum}
+use Rattle.trio_syntax.specs.Grammar.{listed, behind_sign, more_summands, sum}
 use Rattle.trio_syntax.specs.Exact.{spot}
 use Rattle.trio_syntax.proofs.Left.{Left}
 use Rattle.trio_syntax.proofs.parser.Parser.+term.Given as goal
@@ -37,7 +37,7 @@ abbrev pub decreases-term-loop-minus : goal.decreases-term-loop-minus
 decreases-term-loop-minus l = length l.self.rest.now
 
 abbrev pub invariant-terms-loop-self : goal.invariant-terms-loop-self
-invariant-terms-loop-self l = Left (listed signs.Comma (row term)) (spot l.fn.self) (many (behind signs.Comma (row term))) (λ terms. l.terms ++ terms) (spot l.self)
+invariant-terms-loop-self l = Left (listed signs.Comma (row term)) (spot l.fn.self) (many (behind_sign signs.Comma (row term))) (λ terms. l.terms ++ terms) (spot l.self)
 
 abbrev pub decreases-terms-loop-self : goal.decreases-terms-loop-self
 decreases-terms-loop-self l = length l.self.rest.now

@@ -1,7 +1,7 @@
 -- At each exit: the only rest of a domain, or where none goes on.
 use Rattle.std.proofs.Common.{refl}
 use Rattle.trio_text.specs.declared.token.Symbol.TheVariants as signs
-use Rattle.trio_syntax.specs.Grammar.{a_sign, a_name, behind, before, domain_values, domain_rest}
+use Rattle.trio_syntax.specs.Grammar.{a_sign, a_name, behind_sign, before_sign, domain_values, domain_rest}
 use Rattle.trio_syntax.proofs.Left.{left_read, left_stuck, left_seq, seq_stuck}
 use Rattle.trio_syntax.proofs.Filled.{fill}
 use Rattle.trio_syntax.proofs.Exits.{passed_on}
@@ -10,12 +10,12 @@ use Rattle.trio_syntax.proofs.parser.Parser.domain_rest.Goals as goal
 pub returns-in_err-name : goal.returns-in_err-name
 returns-in_err-name c =
     passed_on domain_rest a_name _ _ _ _ _ c.from_residual.ensures.1 c.in_err-name.ensures
-    (λ stuck. seq_stuck (fill (behind signs.Eq (before domain_values signs.Semi))) refl stuck)
+    (λ stuck. seq_stuck (fill (behind_sign signs.Eq (before_sign domain_values signs.Semi))) refl stuck)
 
 pub returns-in_err-sign : goal.returns-in_err-sign
 returns-in_err-sign c =
     passed_on domain_rest (a_sign signs.Eq) _ _ _ _ _ c.from_residual-in_err-sign.ensures.1 c.in_err-sign.ensures
-    (λ stuck. left_stuck (left_seq refl c.in_ok-name.ensures) (seq_stuck (fill (before domain_values signs.Semi)) refl stuck))
+    (λ stuck. left_stuck (left_seq refl c.in_ok-name.ensures) (seq_stuck (fill (before_sign domain_values signs.Semi)) refl stuck))
 
 pub returns-in_err-values : goal.returns-in_err-values
 returns-in_err-values c =

@@ -1,7 +1,7 @@
 -- At each exit: the only rest of an item, or where none goes on.
 use Rattle.std.proofs.Common.{refl}
 use Rattle.trio_text.specs.declared.token.Symbol.TheVariants as signs
-use Rattle.trio_syntax.specs.Grammar.{a_sign, a_name, behind, before, both, ref, refs, item_rest}
+use Rattle.trio_syntax.specs.Grammar.{a_sign, a_name, behind_sign, before_sign, both, ref, refs, item_rest}
 use Rattle.trio_syntax.proofs.Left.{left_read, left_stuck, left_seq, seq_stuck}
 use Rattle.trio_syntax.proofs.Filled.{fill}
 use Rattle.trio_syntax.proofs.Exits.{passed_on}
@@ -10,17 +10,17 @@ use Rattle.trio_syntax.proofs.parser.Parser.item_rest.Goals as goal
 pub returns-in_err-name : goal.returns-in_err-name
 returns-in_err-name c =
     passed_on item_rest a_name _ _ _ _ _ c.from_residual.ensures.1 c.in_err-name.ensures
-    (λ stuck. seq_stuck (fill (both refs (behind signs.Colon (before ref signs.Semi)))) refl stuck)
+    (λ stuck. seq_stuck (fill (both refs (behind_sign signs.Colon (before_sign ref signs.Semi)))) refl stuck)
 
 pub returns-in_err-args : goal.returns-in_err-args
 returns-in_err-args c =
     passed_on item_rest refs _ _ _ _ _ c.from_residual-in_err-args.ensures.1 c.in_err-args.ensures
-    (λ stuck. left_stuck (left_seq refl c.in_ok-name.ensures) (seq_stuck (fill (behind signs.Colon (before ref signs.Semi))) refl stuck))
+    (λ stuck. left_stuck (left_seq refl c.in_ok-name.ensures) (seq_stuck (fill (behind_sign signs.Colon (before_sign ref signs.Semi))) refl stuck))
 
 pub returns-in_err-sign : goal.returns-in_err-sign
 returns-in_err-sign c =
     passed_on item_rest (a_sign signs.Colon) _ _ _ _ _ c.from_residual-in_err-sign.ensures.1 c.in_err-sign.ensures
-    (λ stuck. left_stuck (left_seq refl c.in_ok-name.ensures) (left_stuck (left_seq refl c.in_ok-args.ensures) (seq_stuck (fill (before ref signs.Semi)) refl stuck)))
+    (λ stuck. left_stuck (left_seq refl c.in_ok-name.ensures) (left_stuck (left_seq refl c.in_ok-args.ensures) (seq_stuck (fill (before_sign ref signs.Semi)) refl stuck)))
 
 pub returns-in_err-value : goal.returns-in_err-value
 returns-in_err-value c =

@@ -2,7 +2,7 @@
 use Rattle.std.proofs.Common.{rules, refl}
 use Rattle.trio_text.specs.declared.token.Symbol.TheVariants as signs
 use Rattle.trio_syntax.specs.Forms.{many}
-use Rattle.trio_syntax.specs.Grammar.{a_name, behind, listed}
+use Rattle.trio_syntax.specs.Grammar.{a_name, behind_sign, listed}
 use Rattle.trio_syntax.proofs.Left.{left_read, left_stuck, left_seq, seq_stuck, reads_one, fronts_taken}
 use Rattle.trio_syntax.proofs.Filled.{fill}
 use Rattle.trio_syntax.proofs.Exits.{passed_on}
@@ -12,7 +12,7 @@ use Rattle.trio_syntax.proofs.parser.Parser.names.Goals as goal
 pub returns-in_err-first : goal.returns-in_err-first
 returns-in_err-first c =
     passed_on (listed signs.Comma a_name) a_name _ _ _ _ _ c.from_residual.ensures.1 c.in_err-first.ensures
-    (λ stuck. seq_stuck (fill (many (behind signs.Comma a_name))) refl stuck)
+    (λ stuck. seq_stuck (fill (many (behind_sign signs.Comma a_name))) refl stuck)
 
 pub loop-self-init : goal.loop-self-init
 loop-self-init c =

@@ -1,7 +1,7 @@
 -- At each exit: the only values of a domain, or where none go on.
 use Rattle.std.proofs.Common.{refl}
 use Rattle.trio_text.specs.declared.token.Symbol.TheVariants as signs
-use Rattle.trio_syntax.specs.Grammar.{a_sign, a_name, behind, listed, int, domain_values}
+use Rattle.trio_syntax.specs.Grammar.{a_sign, a_name, behind_sign, listed, int, domain_values}
 use Rattle.trio_syntax.proofs.Left.{left_read, left_stuck, left_right, left_first, left_seq, seq_stuck, reads_one, fronts_taken}
 use Rattle.trio_syntax.proofs.Filled.{fill}
 use Rattle.trio_syntax.proofs.Exits.{passed_on}
@@ -24,7 +24,7 @@ returns-then-takes_sign c =
 pub returns-in_err-least : goal.returns-in_err-least
 returns-in_err-least c =
     passed_on domain_values int _ _ _ _ _ c.from_residual-in_err-least.ensures.1 c.in_err-least.ensures
-    (λ stuck. left_stuck (left_right refl c.if-takes_sign.ensures.left) (seq_stuck (fill (behind signs.Span int)) refl stuck))
+    (λ stuck. left_stuck (left_right refl c.if-takes_sign.ensures.left) (seq_stuck (fill (behind_sign signs.Span int)) refl stuck))
 
 pub returns-in_err-sign-2 : goal.returns-in_err-sign-2
 returns-in_err-sign-2 c =
