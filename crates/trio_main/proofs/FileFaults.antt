@@ -5,6 +5,7 @@ use Rattle.trio_types.specs.World.{World}
 use Rattle.trio_types.specs.Verdict.{world_of}
 use Rattle.trio_reader.specs.declared.fault.SpecFault.{SpecFault}
 use Rattle.trio_reader.specs.declared.fault.SpecFault.TheVariants as spec_fault
+use Rattle.trio_reader.specs.Reading.{HasFault}
 use Rattle.history_table.specs.declared.fault.HistFault.{HistFault}
 use Rattle.history_table.specs.declared.fault.HistFault.TheVariants as history_fault
 use Rattle.trio_main.specs.declared.status.Status.{Status}
@@ -25,9 +26,9 @@ IsOfFile fault.Write = ⊥
 IsOfFile fault.Memory = ⊥
 IsOfFile f = Unit {0}
 
-spec_refusal_of_file : (g : SpecFault) → g ≢ spec_fault.Memory → IsOfFile (spec_refusal g)
-spec_refusal_of_file spec_fault.Memory some = some refl
-spec_refusal_of_file g some = tt
+spec_refusal_of_file : (bytes : List ℕ) (g : SpecFault) → HasFault bytes g → IsOfFile (spec_refusal g)
+spec_refusal_of_file bytes spec_fault.Memory has = absurd has
+spec_refusal_of_file bytes g has = tt
 
 history_refusal_of_file : (world : World) (g : HistFault) → g ≢ history_fault.Memory → IsOfFile (history_refusal world g)
 history_refusal_of_file world history_fault.Memory some = some refl
@@ -40,7 +41,7 @@ file_fault_of_file which shelf name f (inr x) = rw x.0 tt
 
 spec_of_file : (shelf : ShelfView) (name : List ℕ) (f : Fault) → YieldsSpec shelf name (Err f) → IsOfFile f
 spec_of_file shelf name f (inl x) = let same : f ≡ x.0 = cc in rw same (file_fault_of_file text.Spec shelf name x.0 x.2)
-spec_of_file shelf name f (inr x) = rw (x.said.3) (spec_refusal_of_file x.said.0 x.said.1)
+spec_of_file shelf name f (inr x) = rw (x.said.2) (spec_refusal_of_file x.bytes x.said.0 x.said.1)
 
 history_of_file : (world : World) (shelf : ShelfView) (name : List ℕ) (f : Fault) → YieldsHistory world shelf name (Err f) → IsOfFile f
 history_of_file world shelf name f (inl x) = let same : f ≡ x.0 = cc in rw same (file_fault_of_file text.History shelf name x.0 x.2)
