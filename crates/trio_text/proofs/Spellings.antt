@@ -43,148 +43,22 @@ kind_of word =
 -- a reserved word is spelled by a letter and bytes that go on with names
 pub word_is_word : (r : Reserved) → is_word (word_text r) ≡ true
 word_is_word word.Time = refl
-word_is_word word.Domain = refl
-word_is_word word.Item = refl
-word_is_word word.Input = refl
-word_is_word word.Fixed = refl
-word_is_word word.Axiom = refl
-word_is_word word.Goal = refl
-word_is_word word.At = refl
-word_is_word word.All = refl
-word_is_word word.Ex = refl
-word_is_word word.Bool = refl
-word_is_word word.True = refl
-word_is_word word.False = refl
-word_is_word word.Dist = refl
-word_is_word word.Futr = refl
-word_is_word word.Past = refl
-word_is_word word.Alw = refl
-word_is_word word.AlwF = refl
-word_is_word word.AlwP = refl
-word_is_word word.Som = refl
-word_is_word word.SomF = refl
-word_is_word word.SomP = refl
-word_is_word word.Until = refl
-word_is_word word.Since = refl
-word_is_word word.NextTime = refl
-word_is_word word.LastTime = refl
-word_is_word word.Lasts = refl
-word_is_word word.LastsIi = refl
-word_is_word word.LastsIe = refl
-word_is_word word.LastsEi = refl
-word_is_word word.Lasted = refl
-word_is_word word.LastedIi = refl
-word_is_word word.LastedIe = refl
-word_is_word word.LastedEi = refl
-word_is_word word.WithinF = refl
-word_is_word word.WithinFIi = refl
-word_is_word word.WithinFIe = refl
-word_is_word word.WithinFEi = refl
-word_is_word word.WithinP = refl
-word_is_word word.WithinPIi = refl
-word_is_word word.WithinPIe = refl
-word_is_word word.WithinPEi = refl
+word_is_word r = refl
 
 -- a reserved word's spelling is that of no other kind
 pub kind_of-word : (r : Reserved) → kind_of (word_text r) ≡ Some (kind.Word r)
 kind_of-word word.Time = refl
-kind_of-word word.Domain = refl
-kind_of-word word.Item = refl
-kind_of-word word.Input = refl
-kind_of-word word.Fixed = refl
-kind_of-word word.Axiom = refl
-kind_of-word word.Goal = refl
-kind_of-word word.At = refl
-kind_of-word word.All = refl
-kind_of-word word.Ex = refl
-kind_of-word word.Bool = refl
-kind_of-word word.True = refl
-kind_of-word word.False = refl
-kind_of-word word.Dist = refl
-kind_of-word word.Futr = refl
-kind_of-word word.Past = refl
-kind_of-word word.Alw = refl
-kind_of-word word.AlwF = refl
-kind_of-word word.AlwP = refl
-kind_of-word word.Som = refl
-kind_of-word word.SomF = refl
-kind_of-word word.SomP = refl
-kind_of-word word.Until = refl
-kind_of-word word.Since = refl
-kind_of-word word.NextTime = refl
-kind_of-word word.LastTime = refl
-kind_of-word word.Lasts = refl
-kind_of-word word.LastsIi = refl
-kind_of-word word.LastsIe = refl
-kind_of-word word.LastsEi = refl
-kind_of-word word.Lasted = refl
-kind_of-word word.LastedIi = refl
-kind_of-word word.LastedIe = refl
-kind_of-word word.LastedEi = refl
-kind_of-word word.WithinF = refl
-kind_of-word word.WithinFIi = refl
-kind_of-word word.WithinFIe = refl
-kind_of-word word.WithinFEi = refl
-kind_of-word word.WithinP = refl
-kind_of-word word.WithinPIi = refl
-kind_of-word word.WithinPIe = refl
-kind_of-word word.WithinPEi = refl
+kind_of-word r = refl
 
 -- a symbol begins with a byte with which nothing else begins
 pub symbol_begins : (s : Symbol) → begins_with is_sign_byte (symbol_text s) ≡ true
 symbol_begins symbol.Semi = refl
-symbol_begins symbol.Colon = refl
-symbol_begins symbol.Comma = refl
-symbol_begins symbol.LeftRound = refl
-symbol_begins symbol.RightRound = refl
-symbol_begins symbol.LeftSquare = refl
-symbol_begins symbol.RightSquare = refl
-symbol_begins symbol.LeftBrace = refl
-symbol_begins symbol.RightBrace = refl
-symbol_begins symbol.Eq = refl
-symbol_begins symbol.Ne = refl
-symbol_begins symbol.Lt = refl
-symbol_begins symbol.Le = refl
-symbol_begins symbol.Gt = refl
-symbol_begins symbol.Ge = refl
-symbol_begins symbol.Arrow = refl
-symbol_begins symbol.Both = refl
-symbol_begins symbol.And = refl
-symbol_begins symbol.Or = refl
-symbol_begins symbol.Not = refl
-symbol_begins symbol.Plus = refl
-symbol_begins symbol.Minus = refl
-symbol_begins symbol.Times = refl
-symbol_begins symbol.Span = refl
-symbol_begins symbol.Unknown = refl
+symbol_begins s = refl
 
 -- a symbol's spelling is that of no other kind
 pub kind_of-symbol : (s : Symbol) → kind_of (symbol_text s) ≡ Some (kind.Sign s)
 kind_of-symbol symbol.Semi = refl
-kind_of-symbol symbol.Colon = refl
-kind_of-symbol symbol.Comma = refl
-kind_of-symbol symbol.LeftRound = refl
-kind_of-symbol symbol.RightRound = refl
-kind_of-symbol symbol.LeftSquare = refl
-kind_of-symbol symbol.RightSquare = refl
-kind_of-symbol symbol.LeftBrace = refl
-kind_of-symbol symbol.RightBrace = refl
-kind_of-symbol symbol.Eq = refl
-kind_of-symbol symbol.Ne = refl
-kind_of-symbol symbol.Lt = refl
-kind_of-symbol symbol.Le = refl
-kind_of-symbol symbol.Gt = refl
-kind_of-symbol symbol.Ge = refl
-kind_of-symbol symbol.Arrow = refl
-kind_of-symbol symbol.Both = refl
-kind_of-symbol symbol.And = refl
-kind_of-symbol symbol.Or = refl
-kind_of-symbol symbol.Not = refl
-kind_of-symbol symbol.Plus = refl
-kind_of-symbol symbol.Minus = refl
-kind_of-symbol symbol.Times = refl
-kind_of-symbol symbol.Span = refl
-kind_of-symbol symbol.Unknown = refl
+kind_of-symbol s = refl
 
 -- every symbol is listed
 pub symbol_listed : (s : Symbol) (test : Symbol → Bool) → list_all test SYMBOLS ≡ true → test s ≡ true
@@ -240,6 +114,23 @@ word_name [] word none = word
 word_name (b ∷ bs) word none =
     let free : is_reserved (b ∷ bs) ≡ false = fails_each (λ r. bytes_eq (b ∷ bs) (word_text r)) RESERVED (find_none (λ r. bytes_eq (b ∷ bs) (word_text r)) RESERVED none) in
     and_both _ _ (and_left (is_letter b) _ word) (and_both _ _ (and_right (is_letter b) _ word) (ap not free))
+
+-- the words that are no names are the spellings of the reserved words
+reserved_one : (spelled : List ℕ) (found : Option Reserved) → is_reserved spelled ≡ true → reserved_of spelled ≡ found → (r : Reserved) × (spelled ≡ word_text r)
+reserved_one spelled None reserved none =
+    let free : is_reserved spelled ≡ false = fails_each (λ r. bytes_eq spelled (word_text r)) RESERVED (find_none (λ r. bytes_eq spelled (word_text r)) RESERVED none) in
+    cc
+reserved_one spelled (Some r) reserved found = (r, reserved_spells spelled r found)
+
+pub reserved_is_word : (spelled : List ℕ) → is_reserved spelled ≡ true → (r : Reserved) × (spelled ≡ word_text r)
+reserved_is_word spelled reserved = reserved_one spelled (reserved_of spelled) reserved refl
+
+word_text_is_reserved : (r : Reserved) → is_reserved (word_text r) ≡ true
+word_text_is_reserved word.Time = refl
+word_text_is_reserved r = refl
+
+pub word_is_reserved : (spelled : List ℕ) → ((r : Reserved) × (spelled ≡ word_text r)) → is_reserved spelled ≡ true
+word_is_reserved spelled is = ap is_reserved is.1 ∙ word_text_is_reserved is.0
 
 pub name_word : (spelled : List ℕ) → is_name spelled ≡ true → is_word spelled ≡ true
 name_word [] name = name

@@ -1,8 +1,11 @@
 //! What is true of the tokens of every text, each law the contract of a call that does nothing.
 
-ghost use Rattle.std.specs.Prelude.{◌≡◌, ◌≤◌, ◌⊎◌, ℕ, true, List, length};
+ghost use Rattle.std.specs.Prelude.{◌≡◌, ◌↔◌, ◌≤◌, ◌⊎◌, ℕ, true, List, length};
 ghost use Rattle.std.specs.List.{list_all};
+ghost use Rattle.trio_base.specs.Names.{is_reserved};
+ghost use Rattle.trio_text.specs.declared.token.Reserved.{Reserved};
 ghost use Rattle.trio_text.specs.declared.token.Token.{Token};
+ghost use Rattle.trio_text.specs.Spelling.{word_text};
 ghost use Rattle.trio_text.specs.Tokens.{IsTokens, IsLexFault};
 ghost use Rattle.trio_text.specs.Lexemes.{lexemes_of, names_a_name};
 ghost use Rattle.trio_text.specs.Spans.{StandInOrder};
@@ -26,6 +29,11 @@ pub fn text_has_tokens_or_a_fault()
 /// The names among the lexemes of a text are names.
 pub fn names_are_names()
     ensures { (text : List ℕ) (tokens : List Token) → IsTokens text tokens → list_all names_a_name (lexemes_of text tokens) ≡ true }
+{}
+
+/// The words that are no names are just the spellings of the reserved words.
+pub fn words_that_are_no_names_are_reserved()
+    ensures { (word : List ℕ) → (is_reserved word ≡ true) ↔ ((reserved : Reserved) × (word ≡ word_text reserved)) }
 {}
 
 /// Tokens stand one behind another, each at one byte or more of the text, and their lines do not fall.
