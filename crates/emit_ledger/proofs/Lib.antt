@@ -2,3 +2,5 @@
 pub mod Grouped
 pub mod Joined
 pub mod Followed
+pub mod Apart
+pub mod Unused

@@ -38,6 +38,10 @@ givens_of regions = flat_map (λ r. r.given) regions
 abbrev pub starts_of : List RegionView → List Branch
 starts_of regions = map (λ r. r.start) regions
 
+-- each start, and each branch that a region gives, is the start of a region or is among the others
+abbrev pub Balances : List Branch → List RegionView → List Branch → Type 0
+Balances starts regions others = Permutes (starts_of regions ++ others) (starts ++ givens_of regions)
+
 -- Which regions are used, what they gave, and what is left. A region is used once at most, since a place is marked or not.
 pub record IsAssembled (p : Posed) (starts : List Branch) (regions : List RegionView) (found : List (List ℕ)) (rest : List Branch) (dropped : ℕ) : Type 0 where
   -- the places of the used regions
@@ -46,8 +50,8 @@ pub record IsAssembled (p : Posed) (starts : List Branch) (regions : List Region
   -- they are regions of this problem, and what they found is found
   pub same : All (λ r. r.problem ≡ p) (marked marks regions)
   pub tables : Permutes found (founds_of (marked marks regions))
-  -- each start, and each branch that a used region gives, is the start of a used region or is left
-  pub balance : Permutes (starts_of (marked marks regions) ++ rest) (starts ++ givens_of (marked marks regions))
+  -- no branch is lost: with those that are left, the used regions balance
+  pub balance : Balances starts (marked marks regions) rest
   -- no branch is left for which there is a region that is not used
   pub none : All (λ r. r.problem ≡ p → Contains rest r.start → ⊥) (unmarked marks regions)
   pub count : dropped ≡ length (unmarked marks regions)

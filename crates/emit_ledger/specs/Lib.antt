@@ -1,3 +1,4 @@
 pub mod Regions
 pub mod Assembly
 pub mod Pool
+pub mod Laws

@@ -20,7 +20,7 @@ abbrev pub region_view : Posed → Branch → List (List ℕ) → List Branch �
 region_view problem start found given = record { problem = problem; start = start; found = found; given = given }
 
 -- by which such values are told apart
-abbrev branch_code : Coded Branch
+abbrev pub branch_code : Coded Branch
 branch_code = (the_branch.the_row).coded
 
 abbrev pub region_code : Coded RegionView

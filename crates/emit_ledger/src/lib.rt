@@ -3,6 +3,7 @@
 
 mod assembling;
 mod joining;
+pub mod laws;
 mod pool;
 mod region;
 mod sorting;

@@ -1,0 +1,13 @@
+//! The laws of what is put together from regions, each as the contract of a function that does nothing.
+ghost use Rattle.emit_ledger.specs.Laws.{UsedLaw, NoneDroppedLaw};
+
+/// Where each start and each given branch has its region or is among some that are left, and given branches are lighter, every region is
+/// used, what all regions found is found, and just those branches are left.
+pub fn balanced_regions_are_all_used()
+    ensures { UsedLaw }
+{}
+
+/// Where no region is dropped, every one is used: what all regions found is found.
+pub fn none_dropped_is_all_used()
+    ensures { NoneDroppedLaw }
+{}
