@@ -7,7 +7,8 @@ pub fn balanced_regions_are_all_used()
     ensures { UsedLaw }
 {}
 
-/// Where no region is dropped, every one is used: what all regions found is found.
+/// Where no region is dropped, every one is of the problem and is used: what all regions found is found, and each start and each given
+/// branch has its region or is left.
 pub fn none_dropped_is_all_used()
     ensures { NoneDroppedLaw }
 {}
