@@ -166,15 +166,13 @@ pub fn first_in<'a, R: Rule>(
             left,
             right,
         )),
-        FormulaTree::Not(part) => first_in(rule, around, part.get()),
-        FormulaTree::And(parts) => first_among(rule, around, parts.as_slice()),
-        FormulaTree::Or(parts) => first_among(rule, around, parts.as_slice()),
-        FormulaTree::Implies(left, right) => {
-            let left = first_in(rule, around, left.get())?;
-            let right = first_in(rule, around, right.get())?;
-            Ok(earlier(left, right))
+        FormulaTree::Not(part) | FormulaTree::One(_, part) => first_in(rule, around, part.get()),
+        FormulaTree::And(parts) | FormulaTree::Or(parts) => {
+            first_among(rule, around, parts.as_slice())
         }
-        FormulaTree::Iff(left, right) => {
+        FormulaTree::Implies(left, right)
+        | FormulaTree::Iff(left, right)
+        | FormulaTree::Pair(_, left, right) => {
             let left = first_in(rule, around, left.get())?;
             let right = first_in(rule, around, right.get())?;
             Ok(earlier(left, right))
@@ -182,16 +180,10 @@ pub fn first_in<'a, R: Rule>(
         FormulaTree::Quantified(_, variable, domain, body) => {
             first_under(rule, around, Binder { variable, domain }, body.get())
         }
-        FormulaTree::One(_, part) => first_in(rule, around, part.get()),
         FormulaTree::Far(_, part, distance) => {
             let part = first_in(rule, around, part.get())?;
             let distance = first_in_term(rule, around.as_slice(), Role::Distance, true, distance);
             Ok(earlier(part, distance))
-        }
-        FormulaTree::Pair(_, left, right) => {
-            let left = first_in(rule, around, left.get())?;
-            let right = first_in(rule, around, right.get())?;
-            Ok(earlier(left, right))
         }
     }
 }
