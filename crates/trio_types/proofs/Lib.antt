@@ -18,3 +18,5 @@ pub mod Atoms
 pub mod Verdicts
 pub mod Reading
 pub mod Bounded
+pub mod Contained
+mod Formed

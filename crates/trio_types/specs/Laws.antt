@@ -1,5 +1,6 @@
 -- The laws of truth, of terms, of verdicts and of cells, in words.
-use Rattle.std.specs.Prelude.{◌≡◌, ◌≢◌, ◌↔◌, ◌⊎◌, ℕ, ◌+◌, ◌*◌, ◌<◌, ◌≤◌, ℤ, pos, ◌+ℤ◌, ◌-ℤ◌, ◌*ℤ◌, ◌<ℤ◌, ◌≤ℤ◌, true, false, not, List, [], ◌∷◌, ◌++◌, Option, None, Some, length, slice_get}
+use Rattle.std.specs.Prelude.{◌≡◌, ◌≢◌, ◌↔◌, ◌⊎◌, ℕ, ◌+◌, ◌*◌, ◌<◌, ◌≤◌, ℤ, pos, neg_ℤ, ◌+ℤ◌, ◌-ℤ◌, ◌*ℤ◌, ◌<ℤ◌, ◌≤ℤ◌, true, false, not, List, [], ◌∷◌, ◌++◌, Option, None, Some, length, slice_get, codes}
+use Rattle.std.specs.List.{Contains}
 use Rattle.trio_base.specs.Names.{is_name}
 use Rattle.trio_base.specs.declared.operators.Rel.{Rel}
 use Rattle.trio_base.specs.declared.operators.Rel.TheVariants as rel
@@ -26,8 +27,10 @@ use Rattle.trio_types.specs.Values.{value}
 use Rattle.trio_types.specs.Truth.{truth}
 use Rattle.trio_types.specs.Parts.{Parts}
 use Rattle.trio_types.specs.Kinds.{Use, uses_of, is_right}
-use Rattle.trio_types.specs.Names.{declared_names}
+use Rattle.trio_types.specs.Names.{declared_names, variables_of, variables_are_new}
+use Rattle.trio_types.specs.Shape.{is_shaped, numbers_of}
 use Rattle.trio_types.specs.Limits.{count_of, limit_of}
+use Rattle.trio_types.specs.WellFormed.{is_well_formed}
 use Rattle.trio_types.specs.Verdict.{world_of, first_false}
 
 -- connectives
@@ -397,13 +400,57 @@ RowLaw = (w : World) (t : List ℕ) (n i : ℕ) (row : Row) → IsTable w t → 
 
 -- specifications
 
+-- an axiom or a goal
+abbrev pub IsClaim : Parts → Axiom → Type 0
+IsClaim p a = Contains p.axioms a ⊎ Contains p.goals a
+
+-- domain 0 is named `bool` and is of bool, and no other is of bool
+pub record IsBoolFirst (domains : List Domain) : Type 0 where
+  pub first : Domain
+  pub stands : slice_get domains 0 ≡ Some first
+  pub named : first.name ≡ codes "bool"
+  pub of_bool : first.kind ≡ kind.Bool
+  pub alone : (d : ℕ) (domain : Domain) → slice_get domains d ≡ Some domain → domain.kind ≡ kind.Bool → d ≡ 0
+
+-- a number that is written in a text, with a sign or without
+abbrev pub IsWritten : ℤ → Type 0
+IsWritten z = (neg_ℤ (pos 1000000) ≤ℤ z) × (z ≤ℤ pos 1000000)
+
 -- what is well formed, in words
 pub record IsSpecification (p : Parts) : Type 0 where
   pub some_instant : 0 < p.instants
   pub few_instants : p.instants ≤ 256
-  pub values : (d : ℕ) (domain : Domain) → slice_get p.domains d ≡ Some domain → (0 < length (values_of domain.kind)) × (length (values_of domain.kind) ≤ 64)
-  pub arguments : (k : ℕ) (item : Item) → slice_get p.items k ≡ Some item → length item.args ≤ 4
-  pub names : (k : ℕ) (name : List ℕ) → slice_get (declared_names p) k ≡ Some name → is_name name ≡ true
+  pub bool_first : IsBoolFirst p.domains
+  pub ends : (domain : Domain) (low high : ℤ) → Contains p.domains domain → domain.kind ≡ kind.Range low high → IsWritten low × IsWritten high
+  pub values : (domain : Domain) → Contains p.domains domain → (0 < length (values_of domain.kind)) × (length (values_of domain.kind) ≤ 64)
+  pub arguments : (item : Item) → Contains p.items item → length item.args ≤ 4
+  pub names : (name : List ℕ) → Contains (declared_names p) name → is_name name ≡ true
+  pub variables : (a : Axiom) (name : List ℕ) → IsClaim p a → Contains (variables_of a.formula) name → is_name name ≡ true
   pub distinct : (k l : ℕ) (name : List ℕ) → slice_get (declared_names p) k ≡ Some name → slice_get (declared_names p) l ≡ Some name → k ≡ l
-  pub kinds : (k : ℕ) (use_ : Use) → slice_get (uses_of p) k ≡ Some use_ → is_right use_ ≡ true
+  pub new_variables : (a : Axiom) → IsClaim p a → variables_are_new a.formula (declared_names p) ≡ true
+  pub kinds : (use_ : Use) → Contains (uses_of p) use_ → is_right use_ ≡ true
+  pub shaped : (a : Axiom) → IsClaim p a → is_shaped a.formula ≡ true
+  pub numbers : (a : Axiom) (n : ℕ) → IsClaim p a → Contains (numbers_of a.formula) n → n ≤ 1000000
+  pub inside : (a : Axiom) (k : ℕ) → IsClaim p a → a.at ≡ Some k → k < p.instants
   pub limits : (which : Which) → count_of which p ≤ limit_of which
+
+-- nothing else makes parts well formed
+abbrev pub FormedLaw : Type 0
+FormedLaw = (p : Parts) → (is_well_formed p ≡ true) ↔ IsSpecification p
+
+-- one of its words
+abbrev pub IsWordOf : DomainKind → List ℕ → Type 0
+IsWordOf values name = (words : List (List ℕ)) × (values ≡ kind.Words words) × Contains words name
+
+-- the name of a domain but domain 0, or a word of one
+pub record IsDomainName (p : Parts) (name : List ℕ) : Type 0 where
+  pub number : ℕ
+  pub domain : Domain
+  pub stands : slice_get p.domains number ≡ Some domain
+  pub not_first : 0 < number
+  pub is : (name ≡ domain.name) ⊎ IsWordOf domain.kind name
+
+-- the declared names are those, and the names of items, axioms and goals
+abbrev pub DeclaredLaw : Type 0
+DeclaredLaw = (p : Parts) (name : List ℕ) → Contains (declared_names p) name ↔
+    (IsDomainName p name ⊎ (((item : Item) × Contains p.items item × (name ≡ item.name)) ⊎ ((a : Axiom) × IsClaim p a × (name ≡ a.name))))

@@ -14,4 +14,5 @@ pub mod Limits
 pub mod WellFormed
 pub mod Verdict
 pub mod Declarations
+pub mod FormulaLaws
 pub mod Laws

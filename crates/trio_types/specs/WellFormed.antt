@@ -26,7 +26,7 @@ abbrev pub is_other : DomainKind → Bool
 is_other kind.Bool = false
 is_other values = true
 
-abbrev bool_stands_first : List Domain → Bool
+abbrev pub bool_stands_first : List Domain → Bool
 bool_stands_first [] = false
 bool_stands_first (first ∷ others) =
     bytes_eq first.name (codes "bool") && (is_bool first.kind && list_all (λ domain. is_other domain.kind) others)
@@ -39,7 +39,7 @@ has_bool parts = bool_stands_first parts.domains
 abbrev pub is_written : ℤ → Bool
 is_written z = int_le (neg_ℤ (pos GREATEST_NUMBER)) z && int_le z (pos GREATEST_NUMBER)
 
-abbrev ends_are_written : DomainKind → Bool
+abbrev pub ends_are_written : DomainKind → Bool
 ends_are_written (kind.Range low high) = is_written low && is_written high
 ends_are_written values = true
 

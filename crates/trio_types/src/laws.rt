@@ -3,7 +3,8 @@ ghost use Rattle.trio_types.specs.Laws.{NotLaw, AndLaw, OrLaw, ImpliesLaw, IffLa
 ghost use Rattle.trio_types.specs.Laws.{DistLaw, FutrLaw, PastLaw, LastsLaw, WithinFLaw, LastedLaw, WithinPLaw, NextTimeLaw, LastTimeLaw, UntilLaw, SinceLaw};
 ghost use Rattle.trio_types.specs.Laws.{OneOppositeLaw, FarOppositeLaw, QuantifierOppositeLaw, EmptyAheadLaw, EmptyBehindLaw};
 ghost use Rattle.trio_types.specs.Laws.{CompareLaw, LoneLaw, NoValueLaw, ConstantLaw, ReadLaw, OutsideLaw, NoPartLaw, PartLaw, TimesLaw};
-ghost use Rattle.trio_types.specs.Laws.{FalseLaw, TrueLaw, CellsOrderLaw, CellsOnceLaw, CellsStandLaw, EntryLaw, RowLaw, IsSpecification};
+ghost use Rattle.trio_types.specs.Laws.{FalseLaw, TrueLaw, CellsOrderLaw, CellsOnceLaw, CellsStandLaw, EntryLaw, RowLaw, DeclaredLaw, IsSpecification, FormedLaw};
+ghost use Rattle.trio_types.specs.FormulaLaws.{TermShapeLaw, ShapeLaw, TermNumbersLaw, NumbersLaw, VariablesLaw, NewLaw};
 ghost use Rattle.trio_types.specs.Verdict.{parts_of};
 
 use crate::spec::Spec;
@@ -109,7 +110,31 @@ pub fn entries_are_values()
     ensures row { RowLaw }
 {}
 
-/// A specification is well formed, in words.
+/// A formula that is shaped has conjunctions and disjunctions of two parts or more, and sums of two, or of one with a sign.
+pub fn shaped_formulas_have_parts()
+    ensures terms { TermShapeLaw }
+    ensures formulas { ShapeLaw }
+{}
+
+/// The numbers of a formula are those that are written in it.
+pub fn numbers_are_those_written()
+    ensures terms { TermNumbersLaw }
+    ensures formulas { NumbersLaw }
+{}
+
+/// The variables of a formula are those of its quantifiers. They are new where none has a name that is taken, or that of one round it.
+pub fn variables_are_those_of_quantifiers()
+    ensures names { VariablesLaw }
+    ensures new { NewLaw }
+{}
+
+/// The declared names are those of domains but `bool`, of their words, of items, axioms and goals.
+pub fn declared_names_are_those_of_statements()
+    ensures { DeclaredLaw }
+{}
+
+/// A specification is well formed, in words, and nothing else makes parts well formed.
 pub fn specifications_are_well_formed(_spec: &Spec)
-    ensures { IsSpecification (parts_of _spec.now) }
+    ensures words { IsSpecification (parts_of _spec.now) }
+    ensures only { FormedLaw }
 {}
