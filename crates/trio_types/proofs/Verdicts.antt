@@ -1,16 +1,16 @@
 -- The first false axiom and instant, axiom by axiom.
 use Rattle.std.proofs.Common.{◌≡◌, ℕ, zero, suc, ◌+◌, ◌<◌, Bool, true, false, not, cond, List, [], ◌∷◌, map, Option, None, Some, slice_get, find, refl, sym, ap, ◌∙◌, arith}
-use Rattle.std.specs.List.{enumerate_from, flat_map}
+use Rattle.std.specs.List.{enumerate_from, flat_map, list_all}
 use Rattle.std.specs.Option.{option_map, option_or}
 use Rattle.std.proofs.Math.Logic.{⊎_elim}
-use Rattle.std.proofs.lemmas.Bool.{not-true, not-false, not_from_true, not_from_false, cond-true, cond-false, cases_Bool}
+use Rattle.std.proofs.lemmas.Bool.{and_parts, and_from, not-true, not-false, not_from_true, not_from_false, cond-true, cond-false, cases_Bool}
 use Rattle.std.proofs.lemmas.Option.{none-some, same_Some, some_pair_parts}
 use Rattle.std.proofs.lemmas.List.Folds.{find-append}
 use Rattle.trio_types.specs.declared.spec.Axiom.{Axiom}
 use Rattle.trio_types.specs.declared.spec.Spec.{Spec}
 use Rattle.trio_types.specs.World.{World, instants_of}
 use Rattle.trio_types.specs.Truth.{truth}
-use Rattle.trio_types.specs.Verdict.{Demand, world_of, instants_asked, demands_of_axiom, demands_of, first_false}
+use Rattle.trio_types.specs.Verdict.{Demand, world_of, instants_asked, demands_of_axiom, demands_of, is_met, is_true_in, first_false}
 use Rattle.trio_types.specs.Laws.{IsAsked, TrueThroughout, FirstFalse}
 use Rattle.trio_types.proofs.Lists.{found_in_range, none_in_range, range_finds, range_finds_none, or_some, or_none, map_some, map_none}
 
@@ -197,3 +197,25 @@ pub true_is_none : (spec : Spec) (t : List ℕ) → ((k : ℕ) (a : Axiom) → s
 true_is_none spec t each =
     let w = world_of spec in
     first_false_is spec t ∙ from_none w t 0 spec.axioms (λ k a at. none_asked w (truth w a.formula [] t) a.at (each k a at))
+
+-- every demand is met exactly where none is found that is not
+none_from_all : {X : Type 0} (p : X → Bool) (xs : List X) → list_all p xs ≡ true → find (λ x. not (p x)) xs ≡ None
+none_from_all p [] all = refl
+none_from_all p (x ∷ xs) all =
+    let both = and_parts (p x) (list_all p xs) all in
+    cond-false (not (p x)) (Some x) (find (λ x. not (p x)) xs) (not_from_true (p x) both.0) ∙ none_from_all p xs both.1
+
+all_from_none : {X : Type 0} (p : X → Bool) (xs : List X) → find (λ x. not (p x)) xs ≡ None → list_all p xs ≡ true
+all_from_none p [] none = refl
+all_from_none p (x ∷ xs) none =
+    ⊎_elim
+    (λ yes. and_from (p x) (list_all p xs) yes (all_from_none p xs (sym (cond-false (not (p x)) (Some x) (find (λ x. not (p x)) xs) (not_from_true (p x) yes)) ∙ none)))
+    (λ no. absurd (none-some x (sym none ∙ cond-true (not (p x)) (Some x) (find (λ x. not (p x)) xs) (not_from_false (p x) no))))
+    (cases_Bool (p x))
+
+pub whole_is_none : (spec : Spec) (t : List ℕ) → is_true_in spec t ≡ true → first_false spec t ≡ None
+whole_is_none spec t is = ap (option_map place_of) (none_from_all (is_met spec t) (demands_of spec) is)
+
+pub none_is_whole : (spec : Spec) (t : List ℕ) → first_false spec t ≡ None → is_true_in spec t ≡ true
+none_is_whole spec t none =
+    all_from_none (is_met spec t) (demands_of spec) (map_none place_of (find (λ d. not (is_met spec t d)) (demands_of spec)) none)

@@ -31,7 +31,7 @@ use Rattle.trio_types.specs.Names.{declared_names, variables_of, variables_are_n
 use Rattle.trio_types.specs.Shape.{is_shaped, numbers_of}
 use Rattle.trio_types.specs.Limits.{count_of, limit_of}
 use Rattle.trio_types.specs.WellFormed.{is_well_formed}
-use Rattle.trio_types.specs.Verdict.{world_of, first_false}
+use Rattle.trio_types.specs.Verdict.{world_of, is_true_in, first_false}
 
 -- connectives
 
@@ -329,6 +329,24 @@ PartLaw = (w : World) (p : SignedTerm) (ps : List SignedTerm) (e : List ℤ) (t 
 abbrev pub TimesLaw : Type 0
 TimesLaw = (w : World) (n : ℕ) (x : Term) (e : List ℤ) (t : List ℕ) (i : ℕ) (a : ℤ) → value w x e t i ≡ Some a → value w (term.Times n x) e t i ≡ Some (pos n *ℤ a)
 
+-- a sum has no value where a part has none, and a product none where its factor has none
+abbrev pub NoSumLaw : Type 0
+NoSumLaw = (w : World) (p : SignedTerm) (ps : List SignedTerm) (e : List ℤ) (t : List ℕ) (i : ℕ) → Contains ps p → value w (out-SignedTerm p).term e t i ≡ None →
+    value w (term.Sum ps) e t i ≡ None
+
+abbrev pub NoProductLaw : Type 0
+NoProductLaw = (w : World) (n : ℕ) (x : Term) (e : List ℤ) (t : List ℕ) (i : ℕ) → value w x e t i ≡ None → value w (term.Times n x) e t i ≡ None
+
+-- a number is itself, a word or truth constant its index, and a variable the value that its quantifier gives it
+abbrev pub NumberLaw : Type 0
+NumberLaw = (w : World) (n : ℕ) (e : List ℤ) (t : List ℕ) (i : ℕ) → value w (term.Number n) e t i ≡ Some (pos n)
+
+abbrev pub IndexLaw : Type 0
+IndexLaw = (w : World) (d v : ℕ) (e : List ℤ) (t : List ℕ) (i : ℕ) → value w (term.Value d v) e t i ≡ Some (pos v)
+
+abbrev pub VariableLaw : Type 0
+VariableLaw = (w : World) (level : ℕ) (z : ℤ) (e : List ℤ) (t : List ℕ) (i : ℕ) → slice_get e level ≡ Some z → value w (term.Var level) e t i ≡ Some z
+
 -- verdicts
 
 -- the axiom has to hold at this instant: the one that it names, or any inside time
@@ -344,6 +362,10 @@ TrueBefore spec t a i = (j : ℕ) → j < i → IsAsked (world_of spec) a.at j �
 abbrev pub TrueThroughout : Spec → List ℕ → Axiom → Type 0
 TrueThroughout spec t a = (j : ℕ) → IsAsked (world_of spec) a.at j → truth (world_of spec) a.formula [] t j ≡ true
 
+-- each axiom is true at each of its instants
+abbrev pub AllTrue : Spec → List ℕ → Type 0
+AllTrue spec t = (k : ℕ) (a : Axiom) → slice_get spec.axioms k ≡ Some a → TrueThroughout spec t a
+
 -- the axiom of this number is false at this instant, which is one of its own, and all that is demanded before is true
 pub record FirstFalse (spec : Spec) (t : List ℕ) (number : ℕ) (instant : ℕ) : Type 0 where
   pub axiom_ : Axiom
@@ -358,8 +380,10 @@ FalseLaw = (spec : Spec) (t : List ℕ) (number instant : ℕ) →
     (first_false spec t ≡ Some (number, instant)) ↔ FirstFalse spec t number instant
 
 abbrev pub TrueLaw : Type 0
-TrueLaw = (spec : Spec) (t : List ℕ) →
-    (first_false spec t ≡ None) ↔ ((k : ℕ) (a : Axiom) → slice_get spec.axioms k ≡ Some a → TrueThroughout spec t a)
+TrueLaw = (spec : Spec) (t : List ℕ) → (first_false spec t ≡ None) ↔ AllTrue spec t
+
+abbrev pub WholeLaw : Type 0
+WholeLaw = (spec : Spec) (t : List ℕ) → (is_true_in spec t ≡ true) ↔ AllTrue spec t
 
 -- cells
 

@@ -2,8 +2,8 @@
 ghost use Rattle.trio_types.specs.Laws.{NotLaw, AndLaw, OrLaw, ImpliesLaw, IffLaw, AllLaw, ExLaw, AlwLaw, SomLaw, AlwFLaw, SomFLaw, AlwPLaw, SomPLaw};
 ghost use Rattle.trio_types.specs.Laws.{DistLaw, FutrLaw, PastLaw, LastsLaw, WithinFLaw, LastedLaw, WithinPLaw, NextTimeLaw, LastTimeLaw, UntilLaw, SinceLaw};
 ghost use Rattle.trio_types.specs.Laws.{OneOppositeLaw, FarOppositeLaw, QuantifierOppositeLaw, EmptyAheadLaw, EmptyBehindLaw};
-ghost use Rattle.trio_types.specs.Laws.{CompareLaw, LoneLaw, NoValueLaw, ConstantLaw, ReadLaw, OutsideLaw, NoPartLaw, PartLaw, TimesLaw};
-ghost use Rattle.trio_types.specs.Laws.{FalseLaw, TrueLaw, CellsOrderLaw, CellsOnceLaw, CellsStandLaw, EntryLaw, RowLaw, DeclaredLaw, IsSpecification, FormedLaw};
+ghost use Rattle.trio_types.specs.Laws.{CompareLaw, LoneLaw, NoValueLaw, ConstantLaw, ReadLaw, OutsideLaw, NoPartLaw, PartLaw, TimesLaw, NoSumLaw, NoProductLaw, NumberLaw, IndexLaw, VariableLaw};
+ghost use Rattle.trio_types.specs.Laws.{FalseLaw, TrueLaw, WholeLaw, CellsOrderLaw, CellsOnceLaw, CellsStandLaw, EntryLaw, RowLaw, DeclaredLaw, IsSpecification, FormedLaw};
 ghost use Rattle.trio_types.specs.FormulaLaws.{TermShapeLaw, ShapeLaw, TermNumbersLaw, NumbersLaw, VariablesLaw, NewLaw};
 ghost use Rattle.trio_types.specs.Verdict.{parts_of};
 
@@ -82,19 +82,26 @@ pub fn atoms_compare_values()
     ensures constant { ConstantLaw }
 {}
 
-/// Reads, sums and products.
+/// Reads, sums and products, numbers, constants and variables.
 pub fn terms_have_their_values()
     ensures read { ReadLaw }
     ensures outside { OutsideLaw }
     ensures no_part { NoPartLaw }
     ensures part { PartLaw }
     ensures times { TimesLaw }
+    ensures no_sum { NoSumLaw }
+    ensures no_product { NoProductLaw }
+    ensures number { NumberLaw }
+    ensures index { IndexLaw }
+    ensures variable { VariableLaw }
 {}
 
-/// The first false axiom and instant are just that, and there is none exactly where every axiom is true at each of its instants.
+/// The first false axiom and instant are just that. There is none, and the specification is true, exactly where every axiom is true at each of
+/// its instants.
 pub fn first_false_is_first()
     ensures found { FalseLaw }
     ensures none { TrueLaw }
+    ensures whole { WholeLaw }
 {}
 
 /// The cells stand in order, each once, and are those that the items have.
