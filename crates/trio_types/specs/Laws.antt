@@ -315,6 +315,18 @@ OutsideLaw = (w : World) (number : ℕ) (item : Item) (domain : Domain) (args : 
     slice_get w.items number ≡ Some item → slice_get item.args k ≡ Some d → slice_get w.domains d ≡ Some domain → slice_get args k ≡ Some x →
     value w x e t i ≡ Some z → (IsValue domain.kind z → ⊥) → value w (term.Read number args) e t i ≡ None
 
+-- and none where an argument has none, where there are more or fewer than the item has, and where there is no such item
+abbrev pub NoArgumentLaw : Type 0
+NoArgumentLaw = (w : World) (number : ℕ) (args : List Term) (x : Term) (e : List ℤ) (t : List ℕ) (i : ℕ) → Contains args x → value w x e t i ≡ None →
+    value w (term.Read number args) e t i ≡ None
+
+abbrev pub ArityLaw : Type 0
+ArityLaw = (w : World) (number : ℕ) (item : Item) (args : List Term) (e : List ℤ) (t : List ℕ) (i : ℕ) → slice_get w.items number ≡ Some item →
+    length args ≢ length item.args → value w (term.Read number args) e t i ≡ None
+
+abbrev pub NoItemLaw : Type 0
+NoItemLaw = (w : World) (number : ℕ) (args : List Term) (e : List ℤ) (t : List ℕ) (i : ℕ) → slice_get w.items number ≡ None → value w (term.Read number args) e t i ≡ None
+
 -- an empty sum is 0
 abbrev pub NoPartLaw : Type 0
 NoPartLaw = (w : World) (e : List ℤ) (t : List ℕ) (i : ℕ) → value w (term.Sum []) e t i ≡ Some (pos 0)

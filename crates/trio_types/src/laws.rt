@@ -2,7 +2,7 @@
 ghost use Rattle.trio_types.specs.Laws.{NotLaw, AndLaw, OrLaw, ImpliesLaw, IffLaw, AllLaw, ExLaw, AlwLaw, SomLaw, AlwFLaw, SomFLaw, AlwPLaw, SomPLaw};
 ghost use Rattle.trio_types.specs.Laws.{DistLaw, FutrLaw, PastLaw, LastsLaw, WithinFLaw, LastedLaw, WithinPLaw, NextTimeLaw, LastTimeLaw, UntilLaw, SinceLaw};
 ghost use Rattle.trio_types.specs.Laws.{OneOppositeLaw, FarOppositeLaw, QuantifierOppositeLaw, EmptyAheadLaw, EmptyBehindLaw};
-ghost use Rattle.trio_types.specs.Laws.{CompareLaw, LoneLaw, NoValueLaw, ConstantLaw, ReadLaw, OutsideLaw, NoPartLaw, PartLaw, TimesLaw, NoSumLaw, NoProductLaw, NumberLaw, IndexLaw, VariableLaw};
+ghost use Rattle.trio_types.specs.Laws.{CompareLaw, LoneLaw, NoValueLaw, ConstantLaw, ReadLaw, OutsideLaw, NoArgumentLaw, ArityLaw, NoItemLaw, NoPartLaw, PartLaw, TimesLaw, NoSumLaw, NoProductLaw, NumberLaw, IndexLaw, VariableLaw};
 ghost use Rattle.trio_types.specs.Laws.{FalseLaw, TrueLaw, WholeLaw, CellsOrderLaw, CellsOnceLaw, CellsStandLaw, EntryLaw, RowLaw, DeclaredLaw, IsSpecification, FormedLaw};
 ghost use Rattle.trio_types.specs.FormulaLaws.{TermShapeLaw, ShapeLaw, TermNumbersLaw, NumbersLaw, VariablesLaw, NewLaw};
 ghost use Rattle.trio_types.specs.Verdict.{parts_of};
@@ -86,6 +86,9 @@ pub fn atoms_compare_values()
 pub fn terms_have_their_values()
     ensures read { ReadLaw }
     ensures outside { OutsideLaw }
+    ensures no_argument { NoArgumentLaw }
+    ensures arity { ArityLaw }
+    ensures no_item { NoItemLaw }
     ensures no_part { NoPartLaw }
     ensures part { PartLaw }
     ensures times { TimesLaw }
