@@ -4,6 +4,7 @@ pub mod Rows
 pub mod History
 pub mod Decoding
 pub mod Fitting
+pub mod FittingLaws
 pub mod Printed
 pub mod Texts
 pub mod PrintedLaws

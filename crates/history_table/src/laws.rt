@@ -1,5 +1,6 @@
-//! The laws of history texts, each as the contract of a function that does nothing.
+//! The laws of given histories and their texts, each as the contract of a function that does nothing.
 ghost use Rattle.history_table.specs.History.{OneHistory, HistoryOrFault};
+ghost use Rattle.history_table.specs.FittingLaws.{ExtendsLaw, FirstUnknownLaw};
 ghost use Rattle.history_table.specs.PrintedLaws.{PrintedHistoryLaw, PrintedTableLaw};
 
 use trio_text::{text_has_one_fault, text_has_tokens_or_a_fault, text_is_one_list_of_tokens};
@@ -32,3 +33,9 @@ pub fn printed_table_is_that_table()
 {
     text_has_one_history();
 }
+
+/// A table extends a given history where it has each value that is given. The first unknown cell is the first at which none is.
+pub fn given_values_stay_and_gaps_are_found()
+    ensures extends { ExtendsLaw }
+    ensures first { FirstUnknownLaw }
+{}
