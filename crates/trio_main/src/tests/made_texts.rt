@@ -74,10 +74,11 @@ fn instances_at_their_limit(rt: HostRuntime) -> Result<(), Fail> {
     answer_is(&rt, text.as_str(), "4 refused spec limit instances 1000001")
 }
 
+/// One item more than there may be has more cells than there may be too, and is named first.
 #[test]
 fn items_at_their_limit(rt: HostRuntime) -> Result<(), Fail> {
     let alloc = rt.alloc();
-    let mut text = String::from_str(alloc, "time 1;")?;
+    let mut text = String::from_str(alloc, "time 4;")?;
     for number in 0_u32..256 {
         let item = format!(in alloc; " item i{number} : bool;")?;
         text.push_str(item.as_str())?;

@@ -1,6 +1,6 @@
 //! Worked rows on specification texts. A row of specifications has the text, an empty history, and the answer of `check`; a row of formulas has
 //! the formula of the one axiom in place of the text.
-use super::{check_all, check_row, cut};
+use super::{answer_is, check_all, check_row, cut};
 use std::process::Abort;
 use std::test::Fail;
 
@@ -115,11 +115,13 @@ fn kinds(rt: HostRuntime) -> Result<(), Fail> {
     check_all(&rt, &KINDS)
 }
 
-const KINDS_OF_FORMULAS: [&str; 85] = [
+const KINDS_OF_FORMULAS: [&str; 92] = [
     "p = true ~ 4 refused history missing p\n",
     "p != q(0) ~ 4 refused history missing p\n",
     "p < q(0) ~ 4 refused spec kind 57\n",
     "p >= p ~ 4 refused spec kind 57\n",
+    "p > p ~ 4 refused spec kind 57\n",
+    "w <= blue ~ 4 refused spec kind 57\n",
     "x < 1 ~ 4 refused history missing p\n",
     "x <= x + 1 ~ 4 refused history missing p\n",
     "1 > 2 ~ 4 refused history missing p\n",
@@ -159,6 +161,11 @@ const KINDS_OF_FORMULAS: [&str; 85] = [
     "1 < A ~ 4 refused spec kind 58\n",
     "1 < q ~ 4 refused spec kind 57\n",
     "[n] = 1 ~ 4 refused spec kind 57\n",
+    "x + [A] = 1 ~ 4 refused spec kind 59\n",
+    "2 * [A] = 1 ~ 4 refused spec kind 59\n",
+    "q([A]) ~ 4 refused spec kind 59\n",
+    "Dist(p, [A]) ~ 4 refused spec kind 61\n",
+    "[A] = w ~ 4 refused spec kind 57\n",
     "-x = 1 ~ 4 refused history missing p\n",
     "-p = 1 ~ 4 refused spec kind 57\n",
     "x + p = 1 ~ 4 refused spec kind 58\n",
@@ -281,6 +288,114 @@ fn limits(rt: HostRuntime) -> Result<(), Fail> {
     check_all(&rt, &LIMITS)
 }
 
+/// A formula F, and the instance count of `Alw(Alw(F))` over 256 instants: 16,777,216 times that of F, and 65,792.
+const INSTANCE_COUNTS: [&str; 24] = [
+    "1 = 1 ~ 16843008",
+    "!true ~ 33620224",
+    "true & true & true ~ 83951872",
+    "true | !true ~ 67174656",
+    "true -> !true ~ 67174656",
+    "true <-> !true ~ 184615168",
+    "all x : d (!true) ~ 117506304",
+    "ex x : bool (true) ~ 50397440",
+    "Dist(!true, 1) ~ 50397440",
+    "Futr(!true, 1) ~ 50397440",
+    "Past(!true, 1) ~ 50397440",
+    "NextTime(!true, 1) ~ 12968853760",
+    "LastTime(!true, 1) ~ 12968853760",
+    "Som(true) ~ 4311810304",
+    "AlwF(true) ~ 4311810304",
+    "SomF(true) ~ 4311810304",
+    "AlwP(true) ~ 4311810304",
+    "SomP(true) ~ 4311810304",
+    "Lasts(!true, 1) ~ 8606777600",
+    "Lasted_ii(!true, 1) ~ 8606777600",
+    "WithinF_ie(!true, 1) ~ 8606777600",
+    "WithinP_ei(!true, 1) ~ 8606777600",
+    "Until(true, !true) ~ 1116708339968",
+    "Since(!true, true) ~ 2211925000448",
+];
+
+#[test]
+fn instance_counts(rt: HostRuntime) -> Result<(), Fail> {
+    for row in &INSTANCE_COUNTS {
+        let (formula, count) = cut(row);
+        let spec = format!(in rt.alloc();
+            "time 256; domain d = -1..1; axiom A : Alw(Alw({formula}));"
+        )?;
+        let want = format!(in rt.alloc(); "4 refused spec limit instances {count}")?;
+        answer_is(&rt, spec.as_str(), want.as_str())?;
+    }
+    Ok(())
+}
+
+/// Formulas in which the bound of one term, of 1,000,000 times 1,000,001, is above the limit.
+const BOUNDS_ABOVE_THE_LIMIT: [&str; 22] = [
+    "1000000 * [1000000 + 1] = 1",
+    "1 = 1000000 * [1000000 + 1]",
+    "1000000 * [1 - 1000000] = 1",
+    "1000000 * [-1000000 + 1] = 1",
+    "0 * [1000000 * [1000000 + 1]] = 1",
+    "1000000 * [n + 1] = 1",
+    "1000000 * [m - 1] = 1",
+    "all x : low (all y : high (1000000 * [y + 1] = x))",
+    "all y : low (all x : d (1000000 * [y - 1] = x))",
+    "q(1000000 * [1000000 + 1])",
+    "q(1000000 * [1000000 + 1]) = true",
+    "Dist(true, 1000000 * [1000000 + 1])",
+    "!1000000 * [1000000 + 1] = 1",
+    "true & 1000000 * [1000000 + 1] = 1",
+    "true | 1000000 * [1000000 + 1] = 1",
+    "true -> 1000000 * [1000000 + 1] = 1",
+    "1000000 * [1000000 + 1] = 1 -> true",
+    "true <-> 1000000 * [1000000 + 1] = 1",
+    "ex x : d (1000000 * [1000000 + 1] = x)",
+    "Alw(1000000 * [1000000 + 1] = 1)",
+    "Dist(1000000 * [1000000 + 1] = 1, 1)",
+    "Until(true, 1000000 * [1000000 + 1] = 1)",
+];
+
+#[test]
+fn bounds_above_the_limit(rt: HostRuntime) -> Result<(), Fail> {
+    for formula in &BOUNDS_ABOVE_THE_LIMIT {
+        let spec = format!(in rt.alloc();
+            "time 1; domain d = 0..1; domain low = -1000000..-999999; domain high = 999999..1000000; item n : high; item m : low; item q(d) : bool; axiom A : {formula};"
+        )?;
+        answer_is(
+            &rt,
+            spec.as_str(),
+            "4 refused spec limit bound 1000001000000",
+        )?;
+    }
+    Ok(())
+}
+
+/// Every axiom and goal counts, also one that stands at one instant.
+const COUNTED_CLAIMS: [&str; 4] = [
+    "time 256; axiom A at 0 : Alw(Alw(true)); ~  ~ 4 refused spec limit instances 16843008\n",
+    "time 256; goal G at 0 : Alw(Alw(true)); ~  ~ 4 refused spec limit instances 16843008\n",
+    "time 256; axiom A : Alw(Alw(true)); goal G : true; ~  ~ 4 refused spec limit instances 16843264\n",
+    "time 1; goal G : 1000000 * [1000000 + 1] = 1; ~  ~ 4 refused spec limit bound 1000001000000\n",
+];
+
+#[test]
+fn counted_claims(rt: HostRuntime) -> Result<(), Fail> {
+    check_all(&rt, &COUNTED_CLAIMS)
+}
+
+/// Two counts that are above their limits, of which the one that is looked at first is named.
+const LIMITS_IN_THEIR_ORDER: [&str; 4] = [
+    "time 16; domain d = 0..63; item a(d) : d; item b(d) : bool; ~  ~ 4 refused spec limit cells 2048\n",
+    "time 16; domain d = 0..63; item a(d) : d; axiom A : 1000000 * [1000000 + 1] = 1; ~  ~ 4 refused spec limit sizes 65536\n",
+    "time 256; axiom A : Alw(Alw(1000000 * [1000000 + 1] = 1)); ~  ~ 4 refused spec limit bound 1000001000000\n",
+    "time 256; item p : bool; axiom A : p & !(p & !(p & !(p & !(p & !(p & !(p & !(p & !(p & !(p & !(p & !(p & !(p & !(p & !(p & !(p & !(p & !(p & !(p & !(p & !(p & !(p & !(p & !(p & !(p & !(p & !(p & !(p & !(p & !(p & !(p & !(p & !(p & !(p & !(p & !(p & !(p & !(p & !(p & !(p & !(p & !(p & !(p & !(p & !(p & !(p & !(p & !(p & !(p & !(p & !(p & !(p))))))))))))))))))))))))))))))))))))))))))))))))))); axiom B : Alw(Alw(true)); ~  ~ 4 refused spec limit instances 16882432\n",
+];
+
+#[test]
+fn limits_in_their_order(rt: HostRuntime) -> Result<(), Fail> {
+    check_all(&rt, &LIMITS_IN_THEIR_ORDER)
+}
+
 const PHASES_IN_THEIR_ORDER: [&str; 11] = [
     "time 1 1 : @; ~  ~ 4 refused spec lex 11\n",
     "time 1; axiom A : q; axiom A ; ~  ~ 4 refused spec syntax 10\n",
@@ -348,7 +463,7 @@ fn operators(rt: HostRuntime) -> Result<(), Fail> {
     check_all(&rt, &OPERATORS)
 }
 
-const THE_GRAMMAR: [&str; 63] = [
+const THE_GRAMMAR: [&str; 64] = [
     "time 3; item p bool; ~  ~ 4 refused spec syntax 5\n",
     " ~  ~ 4 refused spec syntax 0\n",
     "time ~  ~ 4 refused spec syntax 1\n",
@@ -404,6 +519,7 @@ const THE_GRAMMAR: [&str; 63] = [
     "time 1; item p() : bool; ~  ~ 4 refused spec syntax 6\n",
     "time 1; item p(bool,) : bool; ~  ~ 4 refused spec syntax 8\n",
     "time 1; item p : ; ~  ~ 4 refused spec syntax 6\n",
+    "time 1; item fixed : bool; ~  ~ 4 refused spec syntax 4\n",
     "time 1; input p : bool; axiom A : true; ~  ~ 4 refused history missing p\n",
     "time 1; output p : bool; ~  ~ 4 refused spec syntax 3\n",
     "time 1; goal G at 0 : true -> false; ~  ~ 0 true\n",
