@@ -1,35 +1,11 @@
--- What lists contain, and what holds of all that they contain.
-use Rattle.std.proofs.Common.{◌≡◌, ◌⊎◌, ℕ, zero, suc, ◌+◌, ◌-◌, ◌<◌, ◌≤◌, Bool, true, false, cond, List, [], ◌∷◌, map, length, get_or, filter, All, Contains, inl, inr, refl, sym, ap, ◌∙◌, subst, arith}
+-- What ranges and filtered lists contain, and what holds of all that lists contain.
+use Rattle.std.proofs.Common.{◌≡◌, ℕ, ◌+◌, ◌-◌, ◌<◌, ◌≤◌, Bool, true, false, cond, List, [], ◌∷◌, length, get_or, filter, All, Contains, refl, ap, ◌∙◌, subst, arith}
 use Rattle.std.specs.List.{range_with_len, flat_map, list_all}
 use Rattle.std.proofs.Math.Logic.{⊎_elim}
 use Rattle.std.proofs.lemmas.Bool.{and_from, false≢true}
-use Rattle.std.proofs.lemmas.List.Elements.{All-nil, All-head, All-tail, All-append, All-filter, All-contains, All-contains_itself, filter_passes, Contains-append_left, Contains-append_right}
+use Rattle.std.proofs.lemmas.List.Elements.{All-nil, All-head, All-tail, All-append, All-filter, All-contains, All-contains_itself, filter_passes}
 use Rattle.std.proofs.lemmas.List.FromFn.{length-range_with_len, get_or-range_with_len}
-
-pub contains_here : {X : Type 0} (x : X) (xs : List X) → Contains (x ∷ xs) x
-contains_here x xs = (0, omega arith, refl)
-
-contains_behind : {X : Type 0} (y x : X) (xs : List X) → Contains xs x → Contains (y ∷ xs) x
-contains_behind y x xs has = (suc has.0, omega (arith, has.1), has.2)
-
-contains_cases : {X : Type 0} (y x : X) (xs : List X) → Contains (y ∷ xs) x → (y ≡ x) ⊎ Contains xs x
-contains_cases y x xs has = at_place has.0 has.1 has.2
-  where
-    at_place : (k : ℕ) → k < length (y ∷ xs) → get_or (y ∷ xs) k x ≡ x → (y ≡ x) ⊎ Contains xs x
-    at_place zero inside is = inl is
-    at_place (suc k) inside is = inr (k, omega arith, is)
-
-pub contains_map : {X Y : Type 0} (f : X → Y) (xs : List X) (x : X) → Contains xs x → Contains (map f xs) (f x)
-contains_map f [] x has = absurd (omega (arith, has.1))
-contains_map f (y ∷ ys) x has =
-    ⊎_elim (λ same. subst (λ z. Contains (f y ∷ map f ys) (f z)) same (contains_here (f y) (map f ys)))
-    (λ behind. contains_behind (f y) (f x) (map f ys) (contains_map f ys x behind)) (contains_cases y x ys has)
-
-pub contains_flat : {X Y : Type 0} (f : X → List Y) (xs : List X) (x : X) (y : Y) → Contains xs x → Contains (f x) y → Contains (flat_map f xs) y
-contains_flat f [] x y has inner = absurd (omega (arith, has.1))
-contains_flat f (z ∷ zs) x y has inner =
-    ⊎_elim (λ same. Contains-append_left (f z) (flat_map f zs) y (subst (λ u. Contains (f u) y) (sym same) inner))
-    (λ behind. Contains-append_right (f z) (flat_map f zs) y (contains_flat f zs x y behind inner)) (contains_cases z x zs has)
+use Rattle.trio_types.proofs.Contained.{contains_here, contains_behind, contains_cases}
 
 pub contains_range : (a n v : ℕ) → a ≤ v → v < a + n → Contains (range_with_len a n) v
 contains_range a n v from to =

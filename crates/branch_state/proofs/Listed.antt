@@ -10,7 +10,8 @@ use Rattle.std.proofs.lemmas.List.Elements.{All-nil, All-cons, All-map, All-weak
 use Rattle.trio_types.specs.World.{World}
 use Rattle.trio_types.specs.Cells.{Cell, IsTable, cells_of, cell_size}
 use Rattle.trio_types.specs.Tables.{all_tables, lists_below}
-use Rattle.branch_state.proofs.Contained.{contains_here, contains_map, contains_flat, contains_range, all_range, all_flat}
+use Rattle.trio_types.proofs.Contained.{contains_here, contains_flat, map_law}
+use Rattle.branch_state.proofs.Contained.{contains_range, all_range, all_flat}
 
 -- there is an index for each size, below it
 pub are_below : List ℕ → List ℕ → Bool
@@ -27,7 +28,7 @@ lists_have (s ∷ ss) (v ∷ vs) below =
     let both = and_parts (nat_lt v s) (are_below ss vs) below in
     contains_flat (λ u. map (λ us. u ∷ us) (lists_below ss)) (range_with_len 0 s) v (v ∷ vs)
     (contains_range 0 s v (omega arith) (omega (arith, ltb-true v s both.0)))
-    (contains_map (λ us. v ∷ us) (lists_below ss) vs (lists_have ss vs both.1))
+    ((map_law (λ us. v ∷ us) (lists_below ss) (v ∷ vs)).1 (vs, lists_have ss vs both.1, refl))
 
 lists_are : (ss : List ℕ) → All (λ vs. are_below ss vs ≡ true) (lists_below ss)
 unfolding lists_below are_below
