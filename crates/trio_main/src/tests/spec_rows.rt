@@ -260,10 +260,12 @@ fn ranges(rt: HostRuntime) -> Result<(), Fail> {
     check_all(&rt, &RANGES)
 }
 
-const LIMITS: [&str; 20] = [
+const LIMITS: [&str; 22] = [
     "time 256; item a : bool; item b : bool; item c : bool; item d : bool; ~  ~ 4 refused history missing a\n",
     "time 205; item a : bool; item b : bool; item c : bool; item d : bool; item e : bool; ~  ~ 4 refused spec limit cells 1025\n",
     "time 1; domain d = 0..63; item a(d) : bool; item b(d, bool) : bool; ~  ~ 4 refused history missing a(0)\n",
+    "time 1; domain d = 0..63; item a(d) : d; ~  ~ 4 refused history missing a(0)\n",
+    "time 1; domain d = 0..63; item a(d) : d; item b : bool; ~  ~ 4 refused spec limit sizes 4098\n",
     "time 16; domain d = 0..63; item a(d) : d; ~  ~ 4 refused spec limit sizes 65536\n",
     "time 17; domain d = 0..63; item a(d) : d; ~  ~ 4 refused spec limit cells 1088\n",
     "time 1; domain d = 0..63; item a(d, d) : bool; ~  ~ 4 refused spec limit cells 4096\n",
