@@ -5,3 +5,4 @@ pub mod Steps
 pub mod Spans
 pub mod Ascii
 pub mod Total
+mod Lines

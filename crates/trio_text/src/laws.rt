@@ -1,7 +1,7 @@
 //! What is true of the tokens of every text, each law the contract of a call that does nothing.
 
-ghost use Rattle.std.specs.Prelude.{◌≡◌, ◌↔◌, ◌≤◌, ◌⊎◌, ℕ, true, List, length};
-ghost use Rattle.std.specs.List.{list_all};
+ghost use Rattle.std.specs.Prelude.{◌≡◌, ◌↔◌, ◌≤◌, ◌⊎◌, ℕ, true, List, length, ◌+◌, ◌==◌, Some, slice_get, take};
+ghost use Rattle.std.specs.List.{list_all, count_by};
 ghost use Rattle.trio_base.specs.Names.{is_reserved};
 ghost use Rattle.trio_text.specs.declared.token.Reserved.{Reserved};
 ghost use Rattle.trio_text.specs.declared.token.Token.{Token};
@@ -44,4 +44,10 @@ pub fn tokens_stand_in_order()
 /// A text has no more tokens than bytes.
 pub fn tokens_are_no_more_than_bytes()
     ensures { (text : List ℕ) (tokens : List Token) → IsTokens text tokens → length tokens ≤ length text }
+{}
+
+/// A token's line is one more than the LFs before it.
+pub fn token_lines_count_newlines()
+    ensures { (text : List ℕ) (tokens : List Token) (k : ℕ) (token : Token) → IsTokens text tokens → slice_get tokens k ≡ Some token
+        → token.line ≡ 1 + count_by (λ b. b == 10) (take token.start text) }
 {}

@@ -11,7 +11,8 @@ mod token;
 
 pub use laws::{
     names_are_names, text_has_one_fault, text_has_tokens_or_a_fault, text_is_one_list_of_tokens,
-    tokens_are_no_more_than_bytes, tokens_stand_in_order, words_that_are_no_names_are_reserved,
+    token_lines_count_newlines, tokens_are_no_more_than_bytes, tokens_stand_in_order,
+    words_that_are_no_names_are_reserved,
 };
 pub use lexeme::{Lexeme, Lexemes, lexemes};
 pub use lexer::tokens;
