@@ -1,0 +1,5 @@
+pub mod Fetched
+pub mod Histories
+pub mod Refusals
+pub mod Scanned
+pub mod Serving

@@ -1,2 +1,12 @@
+pub mod Command
 pub mod Excerpt
+pub mod Explained
+pub mod HistoryWords
+pub mod LimitWords
 pub mod Place
+pub mod RowForm
+pub mod Said
+pub mod Sources
+pub mod SpecWords
+pub mod Status
+pub mod VerdictWords

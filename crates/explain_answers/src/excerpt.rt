@@ -1,13 +1,31 @@
 //! The line of a text in which something stands, with a mark under it.
-ghost use Rattle.std.specs.Prelude.{◌≡◌, ◌++◌, ◌∷◌, [], length, take, drop, take_while, not, ◌||◌, ◌==◌, ◌≤◌, map, codes, decimal, OnOk};
+ghost use Rattle.std.specs.Prelude.{◌≡◌, ◌++◌, ◌∷◌, [], length, take, drop, take_while, not, ◌||◌, ◌==◌, ◌≤◌, map, codes, decimal, IfOk, OnOk};
 ghost use Rattle.std.specs.List.{flat_map};
 ghost use Rattle.explain_answers.specs.Place.{line_behind, column_behind};
 ghost use Rattle.explain_answers.specs.Excerpt.{place_words, shown, blank, line_so_far, rest_of_line, excerpt};
+ghost use Rattle.explain_answers.specs.Said.{said_at};
 
 use crate::place::{column_behind, parted, place_of};
 use crate::source::Source;
 use crate::writing::{put, put_number};
-use std::alloc::AllocError;
+use std::alloc::{AllocError, Global};
+
+/// The place of the byte of this number, a sentence, and the line of the text with a mark under the byte.
+pub fn said_at(
+    alloc: Global,
+    source: Source<'_>,
+    byte: usize,
+    sentence: &[u8],
+) -> Result<Vec<u8>, AllocError>
+    ensures { IfOk result (λ words. words.items ≡ said_at source.entry.file.now source.entry.text.now byte sentence.now) }
+{
+    let mut words = Vec::new(alloc);
+    put_place(&mut words, source, byte)?;
+    words.extend_from_slice(sentence)?;
+    put(&mut words, "\n")?;
+    put_excerpt(&mut words, source.text, byte)?;
+    Ok(words)
+}
 
 /// Puts `FILE:LINE:COLUMN: ` for the byte of this number.
 pub fn put_place(out: &mut Vec<u8>, source: Source<'_>, byte: usize) -> Result<(), AllocError>

@@ -1,18 +1,26 @@
 //! What is said of a command: a text for people, and the status with which `trio` ends.
-ghost use Rattle.std.specs.Prelude.{◌≡◌, length, IfOk};
-ghost use Rattle.trio_types.specs.Cells.{IsTable};
-ghost use Rattle.trio_types.specs.Verdict.{world_of};
+ghost use Rattle.std.specs.Prelude.{◌≡◌, ◌≤◌, ◌<◌, ◌⊎◌, ◌++◌, ℕ, length, codes, Some, None, IfOk, MatchResult};
+ghost use Rattle.trio_io.specs.Outside.{OnlyReads};
+ghost use Rattle.trio_types.specs.Cells.{IsTable, rows_of};
+ghost use Rattle.trio_types.specs.Verdict.{world_of, first_false};
+ghost use Rattle.trio_reader.specs.Reading.{HasFault};
+ghost use Rattle.history_table.specs.History.{HasHistFault};
 ghost use Rattle.history_table.specs.Fitting.{IsGiven};
+ghost use Rattle.explain_answers.specs.Command.{word_bytes, asked_of};
+ghost use Rattle.explain_answers.specs.Sources.{AreTokensOf};
+ghost use Rattle.explain_answers.specs.SpecWords.{SaysSpecFault};
+ghost use Rattle.explain_answers.specs.HistoryWords.{SaysHistoryFault};
+ghost use Rattle.explain_answers.specs.Explained.{usage_line, memory_line, unread_line, most_bytes, IsFile, FileEnds, SpecEnds, IsSpecFile, HistoryEnds, IsHistoryFile, SaysVerdict, Tells, Serves, SaysOf, Said, Finishes};
 
-use crate::command::{Command, read_words};
-use crate::given_words::put_readable;
-use crate::history_words::put_history_fault;
-use crate::limit_words::put_too_long;
+use crate::command::{Command, Task, read_words};
+use crate::given_words::readable_line;
+use crate::history_words::history_fault_words;
+use crate::limit_words::too_long_line;
 use crate::source::Source;
-use crate::spec_words::put_spec_fault;
-use crate::timeline::rows;
-use crate::verdict_words::put_false;
-use crate::writing::{put, put_all, put_counted};
+use crate::spec_words::spec_fault_words;
+use crate::status::Status;
+use crate::verdict_words::{false_words, true_line, unknown_line};
+use crate::writing::put;
 use history_check::{Verdict, check};
 use history_table::{Given, HistFault, Table, read_history};
 use std::alloc::{AllocError, Global};
@@ -22,42 +30,11 @@ use trio_reader::{SpecFault, read_spec};
 use trio_text::{LexFault, TokenList, tokens};
 use trio_types::{List, Spec, cell_count};
 
-/// The statuses, as those of `trio`.
-const DONE: u8 = 0;
-
-const FALSE: u8 = 1;
-
-const USAGE: u8 = 2;
-
-const REFUSED: u8 = 4;
-
-const READ_FAULT: u8 = 5;
-
-const WRITE_FAULT: u8 = 6;
-
-/// The status of want of memory.
-pub const MEMORY: u8 = 7;
-
 /// A status and what is said with it.
 #[derive(Drop)]
 struct Answer {
-    status: u8,
+    status: Status,
     text: Vec<u8>,
-}
-
-/// Why a command goes no further.
-#[derive(Drop)]
-enum Stop {
-    /// Its answer is found.
-    Found(Answer),
-    /// Want of memory.
-    Memory,
-}
-
-impl From<AllocError> for Stop {
-    fn from(_error: AllocError) -> Stop {
-        Stop::Memory
-    }
 }
 
 /// A specification with its text and tokens.
@@ -74,214 +51,250 @@ pub fn explained<F: Shelf, K: Sink>(
     words: &[String],
     shelf: &mut F,
     out: &mut K,
-) -> u8 {
+) -> Status
+    ensures reads { OnlyReads 2 (F.seen shelf.old) (F.seen shelf.new) }
+    ensures finishes { Finishes (asked_of (word_bytes words.now)) (F.seen shelf.old) (F.seen shelf.new) (K.seen out.old) (K.seen out.new) result }
+{
     match answered(alloc, words, shelf) {
-        Ok(answer) | Err(Stop::Found(answer)) => give(out, answer.status, answer.text.as_slice()),
-        Err(Stop::Memory) => give(out, MEMORY, b"there is not memory enough\n"),
+        Ok(answer) => give(out, answer.status, answer.text.as_slice()),
+        Err(_) => give(out, Status::Memory, b"there is not memory enough\n"),
     }
 }
 
 /// Writes a text, and answers its status or that of a failed write.
-fn give<K: Sink>(out: &mut K, status: u8, text: &[u8]) -> u8 {
+fn give<K: Sink>(out: &mut K, status: Status, text: &[u8]) -> Status
+    ensures { Said status text.now (K.seen out.old) (K.seen out.new) result }
+{
     match write_whole(out, text) {
         Ok(()) => status,
-        Err(_) => WRITE_FAULT,
+        Err(_) => Status::WriteFault,
     }
 }
 
-fn answered<F: Shelf>(alloc: Global, words: &[String], shelf: &mut F) -> Result<Answer, Stop> {
+fn answered<F: Shelf>(alloc: Global, words: &[String], shelf: &mut F) -> Result<Answer, AllocError>
+    ensures reads { OnlyReads 2 (F.seen shelf.old) (F.seen shelf.new) }
+    ensures says { IfOk result (λ answer. SaysOf (asked_of (word_bytes words.now)) (F.seen shelf.old) (F.seen shelf.new) answer.status answer.text.items) }
+{
     match read_words(words) {
-        Some(Command::Check(spec, history)) => checked(alloc, shelf, spec, history),
-        Some(Command::Complete(spec, history)) => completed(alloc, shelf, spec, history),
-        None => said(
-            alloc,
-            USAGE,
-            &["usage: trio_explain check SPEC HIST | complete SPEC HIST\n"],
-        ),
+        Some(command) => served(alloc, shelf, command),
+        None => Ok(Answer {
+            status: Status::Usage,
+            text: line(
+                alloc,
+                "usage: trio_explain check SPEC HIST | complete SPEC HIST\n",
+            )?,
+        }),
     }
 }
 
-/// An answer of these words.
-fn said(alloc: Global, status: u8, words: &[&str]) -> Result<Answer, Stop> {
+fn line(alloc: Global, words: &str) -> Result<Vec<u8>, AllocError>
+    ensures { IfOk result (λ text. text.items ≡ words.now) }
+{
     let mut text = Vec::new(alloc);
-    put_all(&mut text, words)?;
-    Ok(Answer { status, text })
+    put(&mut text, words)?;
+    Ok(text)
 }
 
-/// What is said of a specification and the history that is checked against it.
-fn checked<F: Shelf>(
+/// What is said of what is asked for.
+fn served<F: Shelf>(
     alloc: Global,
     shelf: &mut F,
-    spec_name: &str,
-    history_name: &str,
-) -> Result<Answer, Stop> {
-    let loaded = load_spec(alloc, shelf, spec_name)?;
-    let given = load_history(alloc, shelf, &loaded.spec, history_name)?;
-    let source = Source {
-        file: spec_name,
-        text: loaded.text.as_slice(),
-        tokens: loaded.tokens.as_slice(),
-    };
-    judged(alloc, source, &loaded.spec, &given, history_name)
+    command: Command<'_>,
+) -> Result<Answer, AllocError>
+    ensures reads { OnlyReads 2 (F.seen shelf.old) (F.seen shelf.new) }
+    ensures serves { IfOk result (λ answer. Serves (record { task_ = command.entry.task; spec = command.entry.spec.now; history = command.entry.history.now }) (F.seen shelf.old) (F.seen shelf.new) answer.status answer.text.items) }
+{
+    match load_spec(alloc, shelf, command.spec)? {
+        Ok(loaded) => match load_history(alloc, shelf, &loaded.spec, command.history)? {
+            Ok(given) => told(alloc, command, &loaded, &given),
+            Err(answer) => Ok(answer),
+        },
+        Err(answer) => Ok(answer),
+    }
 }
 
-/// What is said of a specification and a given history that is to be completed.
-fn completed<F: Shelf>(
-    alloc: Global,
-    shelf: &mut F,
-    spec_name: &str,
-    history_name: &str,
-) -> Result<Answer, Stop> {
-    let loaded = load_spec(alloc, shelf, spec_name)?;
-    let given = load_history(alloc, shelf, &loaded.spec, history_name)?;
-    let mut text = Vec::new(alloc);
-    put_readable(&mut text, spec_name, history_name, given.as_slice())?;
-    Ok(Answer { status: DONE, text })
-}
-
-/// The bytes of a file, which is a specification's or a history's.
+/// The bytes of a file, which is a specification's or a history's, or why it goes no further. `Err` is want of memory.
 fn load_text<F: Shelf>(
     alloc: Global,
     shelf: &mut F,
     name: &str,
     is_spec: bool,
-) -> Result<Vec<u8>, Stop> {
-    let most = if is_spec {
+) -> Result<Result<Vec<u8>, Answer>, AllocError>
+    ensures reads { OnlyReads 1 (F.seen shelf.old) (F.seen shelf.new) }
+    ensures loads { IfOk result (λ loaded. MatchResult loaded (λ bytes. IsFile (F.seen shelf.old) is_spec name.now bytes.items) (λ answer. FileEnds is_spec (F.seen shelf.old) (F.seen shelf.new) name.now answer.status answer.text.items)) }
+{
+    let mut bytes = Vec::new(alloc);
+    match shelf.fetch(name, most_bytes(is_spec), &mut bytes) {
+        Ok(()) => Ok(Ok(bytes)),
+        Err(ShelfFault::TooLong) => Ok(Err(Answer {
+            status: Status::Refused,
+            text: too_long_line(alloc, name, is_spec)?,
+        })),
+        Err(ShelfFault::Failed) => Ok(Err(Answer {
+            status: Status::ReadFault,
+            text: unread_line(alloc, name)?,
+        })),
+        Err(ShelfFault::Memory) => Err(AllocError),
+    }
+}
+
+/// The most bytes of a specification, or of a history.
+fn most_bytes(is_spec: bool) -> u64
+    ensures { result ≡ most_bytes is_spec }
+{
+    if is_spec {
         MOST_SPEC_BYTES
     } else {
         MOST_HISTORY_BYTES
-    };
-    let mut bytes = Vec::new(alloc);
-    match shelf.fetch(name, most, &mut bytes) {
-        Ok(()) => Ok(bytes),
-        Err(ShelfFault::Memory) => Err(Stop::Memory),
-        Err(ShelfFault::TooLong) => Err(Stop::Found(too_long(alloc, name, is_spec)?)),
-        Err(ShelfFault::Failed) => Err(Stop::Found(said(
-            alloc,
-            READ_FAULT,
-            &[name, ": there is no such file, or it cannot be read\n"],
-        )?)),
     }
 }
 
-fn too_long(alloc: Global, name: &str, is_spec: bool) -> Result<Answer, Stop> {
+fn unread_line(alloc: Global, name: &str) -> Result<Vec<u8>, AllocError>
+    ensures { IfOk result (λ text. text.items ≡ unread_line name.now) }
+{
     let mut text = Vec::new(alloc);
-    put_too_long(&mut text, name, is_spec)?;
-    Ok(Answer {
-        status: REFUSED,
-        text,
-    })
+    put(&mut text, name)?;
+    put(&mut text, ": there is no such file, or it cannot be read\n")?;
+    Ok(text)
 }
 
 /// The tokens of a text; none where a byte of it begins no token.
-fn tokens_of(alloc: Global, text: &[u8]) -> Result<TokenList, Stop> {
+fn tokens_of(alloc: Global, text: &[u8]) -> Result<TokenList, AllocError>
+    ensures { IfOk result (AreTokensOf text.now) }
+{
     match tokens(alloc, text) {
         Ok(found) => Ok(found),
         Err(LexFault::Byte(_)) => Ok(List::new(alloc)),
-        Err(LexFault::Memory) => Err(Stop::Memory),
+        Err(LexFault::Memory) => Err(AllocError),
     }
 }
 
-fn load_spec<F: Shelf>(alloc: Global, shelf: &mut F, name: &str) -> Result<SpecText, Stop> {
-    let text = load_text(alloc, shelf, name, true)?;
+/// The specification in a file, or why it goes no further.
+fn load_spec<F: Shelf>(
+    alloc: Global,
+    shelf: &mut F,
+    name: &str,
+) -> Result<Result<SpecText, Answer>, AllocError>
+    ensures reads { OnlyReads 1 (F.seen shelf.old) (F.seen shelf.new) }
+    ensures loads { IfOk result (λ loaded. MatchResult loaded (λ found. IsSpecFile (F.seen shelf.old) name.now found.text.items found.tokens found.spec) (λ answer. SpecEnds (F.seen shelf.old) (F.seen shelf.new) name.now answer.status answer.text.items)) }
+{
+    let text = match load_text(alloc, shelf, name, true)? {
+        Ok(text) => text,
+        Err(answer) => return Ok(Err(answer)),
+    };
     let tokens = tokens_of(alloc, text.as_slice())?;
     match read_spec(alloc, text.as_slice()) {
-        Ok(spec) => Ok(SpecText { text, tokens, spec }),
-        Err(SpecFault::Memory) => Err(Stop::Memory),
+        Ok(spec) => Ok(Ok(SpecText { text, tokens, spec })),
         Err(fault) => {
             let source = Source {
                 file: name,
                 text: text.as_slice(),
                 tokens: tokens.as_slice(),
             };
-            Err(Stop::Found(spec_refused(alloc, source, fault)?))
+            Ok(Err(spec_refused(alloc, source, fault)?))
         }
     }
 }
 
-fn spec_refused(alloc: Global, source: Source<'_>, fault: SpecFault) -> Result<Answer, Stop> {
-    let mut text = Vec::new(alloc);
-    put_spec_fault(&mut text, source, fault)?;
+/// What is said of a specification that is refused.
+fn spec_refused(alloc: Global, source: Source<'_>, fault: SpecFault) -> Result<Answer, AllocError>
+    ensures { IfOk result (λ answer. (answer.status ≡ Status.Refused) × SaysSpecFault source.entry.file.now source.entry.text.now source.entry.tokens.now fault answer.text.items) }
+{
     Ok(Answer {
-        status: REFUSED,
-        text,
+        status: Status::Refused,
+        text: spec_fault_words(alloc, source, fault)?,
     })
 }
 
+/// The given history in a file, or why it goes no further.
 fn load_history<F: Shelf>(
     alloc: Global,
     shelf: &mut F,
     spec: &Spec,
     name: &str,
-) -> Result<Given, Stop>
-    ensures { IfOk result (IsGiven (world_of spec.now)) }
+) -> Result<Result<Given, Answer>, AllocError>
+    ensures reads { OnlyReads 1 (F.seen shelf.old) (F.seen shelf.new) }
+    ensures loads { IfOk result (λ loaded. MatchResult loaded (IsHistoryFile (world_of spec.now) (F.seen shelf.old) name.now) (λ answer. HistoryEnds (world_of spec.now) (F.seen shelf.old) (F.seen shelf.new) name.now answer.status answer.text.items)) }
+    ensures fits { IfOk result (λ loaded. IfOk loaded (IsGiven (world_of spec.now))) }
 {
-    let text = load_text(alloc, shelf, name, false)?;
+    let text = match load_text(alloc, shelf, name, false)? {
+        Ok(text) => text,
+        Err(answer) => return Ok(Err(answer)),
+    };
     match read_history(alloc, spec, text.as_slice()) {
-        Ok(given) => Ok(given),
-        Err(HistFault::Memory) => Err(Stop::Memory),
-        Err(fault) => Err(Stop::Found(history_refused(alloc, spec, name, text.as_slice(), fault)?)),
+        Ok(given) => Ok(Ok(given)),
+        Err(fault) => {
+            let tokens = tokens_of(alloc, text.as_slice())?;
+            let source = Source {
+                file: name,
+                text: text.as_slice(),
+                tokens: tokens.as_slice(),
+            };
+            Ok(Err(history_refused(alloc, source, spec, fault)?))
+        }
     }
 }
 
+/// What is said of a history that is refused.
 fn history_refused(
     alloc: Global,
+    source: Source<'_>,
     spec: &Spec,
-    name: &str,
-    history: &[u8],
     fault: HistFault,
-) -> Result<Answer, Stop> {
-    let tokens = tokens_of(alloc, history)?;
-    let source = Source {
-        file: name,
-        text: history,
-        tokens: tokens.as_slice(),
-    };
-    let mut text = Vec::new(alloc);
-    match fault {
-        HistFault::MissingRow(row) => put_missing(alloc, &mut text, spec, name, row)?,
-        _ => put_history_fault(&mut text, source, spec, fault)?,
-    }
+) -> Result<Answer, AllocError>
+    requires { (row : ℕ) → fault ≡ HistFault.MissingRow row → row < length (rows_of (world_of spec.now)) }
+    ensures { IfOk result (λ answer. (answer.status ≡ Status.Refused) × SaysHistoryFault (world_of spec.now) source.entry.file.now source.entry.text.now source.entry.tokens.now fault answer.text.items) }
+{
     Ok(Answer {
-        status: REFUSED,
-        text,
+        status: Status::Refused,
+        text: history_fault_words(alloc, source, spec, fault)?,
     })
 }
 
-fn put_missing(
+/// What is said of a specification and a given history of it.
+fn told(
     alloc: Global,
-    out: &mut Vec<u8>,
-    spec: &Spec,
-    name: &str,
-    row: u32,
-) -> Result<(), AllocError> {
-    put_all(out, &[name, ": no line is the row of `"])?;
-    put_row_name(alloc, out, spec, row)?;
-    put(out, "`\n")
-}
-
-/// Puts the name of the row of this number.
-fn put_row_name(alloc: Global, out: &mut Vec<u8>, spec: &Spec, row: u32) -> Result<(), AllocError> {
-    match rows(alloc, spec)?.as_slice().get(row as usize) {
-        Some(found) => put(out, found.name.as_str()),
-        None => Ok(()),
+    command: Command<'_>,
+    loaded: &SpecText,
+    given: &Given,
+) -> Result<Answer, AllocError>
+    requires { IsGiven (world_of loaded.now.spec) given.now }
+    ensures { IfOk result (λ answer. Tells command.entry.task command.entry.spec.now loaded.now.text.items loaded.now.tokens loaded.now.spec command.entry.history.now given.now answer.status answer.text.items) }
+{
+    match command.task {
+        Task::Check => {
+            let source = Source {
+                file: command.spec,
+                text: loaded.text.as_slice(),
+                tokens: loaded.tokens.as_slice(),
+            };
+            judged(alloc, source, &loaded.spec, given, command.history)
+        }
+        Task::Complete => Ok(Answer {
+            status: Status::Done,
+            text: readable_line(alloc, command.spec, command.history, given.as_slice())?,
+        }),
     }
 }
 
-/// The verdict on a given history, or the sentence on its first unknown value.
+/// What is said of a given history that is checked: the verdict, or the first value that is not known.
 fn judged(
     alloc: Global,
     source: Source<'_>,
     spec: &Spec,
     given: &Given,
     history_name: &str,
-) -> Result<Answer, Stop>
+) -> Result<Answer, AllocError>
     requires { IsGiven (world_of spec.now) given.now }
+    ensures { IfOk result (λ answer. Tells Task.Check source.entry.file.now source.entry.text.now source.entry.tokens.now spec.now history_name.now given.now answer.status answer.text.items) }
 {
     let mut table = blank_table(alloc, cell_count(spec))?;
     match given.whole(&mut table) {
         Ok(()) => verdict_on(alloc, source, spec, &table, history_name),
-        Err(cell) => unknown(alloc, spec, history_name, cell),
+        Err(cell) => Ok(Answer {
+            status: Status::Refused,
+            text: unknown_line(alloc, spec, history_name, cell)?,
+        }),
     }
 }
 
@@ -292,16 +305,19 @@ fn verdict_on(
     spec: &Spec,
     table: &Table,
     history_name: &str,
-) -> Result<Answer, Stop>
+) -> Result<Answer, AllocError>
     requires { IsTable (world_of spec.now) table.now }
+    ensures { IfOk result (λ answer. SaysVerdict source.entry.file.now source.entry.text.now source.entry.tokens.now spec.now history_name.now (first_false spec.now table.now) answer.status answer.text.items) }
 {
     match check(alloc, spec, table)? {
-        Verdict::True => said(
-            alloc,
-            DONE,
-            &[source.file, " is true in ", history_name, "\n"],
-        ),
-        Verdict::False(number, instant) => false_in(alloc, source, spec, table, number, instant),
+        Verdict::True => Ok(Answer {
+            status: Status::Done,
+            text: true_line(alloc, source.file, history_name)?,
+        }),
+        Verdict::False(number, instant) => Ok(Answer {
+            status: Status::False,
+            text: false_words(alloc, source, spec, table, number, instant)?,
+        }),
     }
 }
 
@@ -316,43 +332,4 @@ fn blank_table(alloc: Global, cells: u32) -> Result<Table, AllocError>
         }
     }
     Ok(table)
-}
-
-fn unknown(alloc: Global, spec: &Spec, history_name: &str, cell: u32) -> Result<Answer, Stop> {
-    let mut text = Vec::new(alloc);
-    let (row, instant) = match (
-        cell.checked_div(spec.instants),
-        cell.checked_rem(spec.instants),
-    ) {
-        (Some(row), Some(instant)) => (row, instant),
-        _ => (0, 0),
-    };
-    put_all(&mut text, &[history_name, ": the value of `"])?;
-    put_row_name(alloc, &mut text, spec, row)?;
-    put_counted(
-        &mut text,
-        "` at instant ",
-        u64::from(instant),
-        " is not known, and `check` needs every value\n",
-    )?;
-    Ok(Answer {
-        status: REFUSED,
-        text,
-    })
-}
-
-fn false_in(
-    alloc: Global,
-    source: Source<'_>,
-    spec: &Spec,
-    table: &Table,
-    number: u32,
-    instant: u32,
-) -> Result<Answer, Stop> {
-    let mut text = Vec::new(alloc);
-    put_false(alloc, &mut text, source, spec, table, number, instant)?;
-    Ok(Answer {
-        status: FALSE,
-        text,
-    })
 }

@@ -1,7 +1,7 @@
 //! Sentences on uses of a wrong kind.
 use crate::nesting::{Asked, Sort};
 use crate::source::{Class, Source};
-use crate::writing::{put, put_all, put_counted, put_number};
+use crate::writing::{put, put_around, put_counted};
 use std::alloc::AllocError;
 use trio_text::{Symbol, TokenKind};
 
@@ -25,7 +25,7 @@ fn is_order(sign: Symbol) -> bool {
 
 /// Two sides of a relation that do not go together.
 fn put_relation(out: &mut Vec<u8>, source: Source<'_>, token: usize) -> Result<(), AllocError> {
-    put_all(out, &["`", source.word(token), "` has "])?;
+    put_around(out, "`", source.word(token), "` has ")?;
     put_sort(out, source.sort_of_term(atom_start(source, token)))?;
     put(out, " to its left and ")?;
     put_sort(out, source.sort_of_term(token.saturating_add(1)))?;
@@ -82,7 +82,7 @@ fn begins_atom(sign: Symbol) -> bool {
 /// A name that stands where a domain is named and is none.
 fn put_no_domain(out: &mut Vec<u8>, source: Source<'_>, token: usize) -> Result<(), AllocError> {
     let name = source.word(token);
-    put_all(out, &["`", name, "` is "])?;
+    put_around(out, "`", name, "` is ")?;
     match source.declared(name) {
         Some(found) => put(out, class_words(found.class))?,
         None => put(out, "a variable")?,
@@ -107,15 +107,15 @@ fn put_name(out: &mut Vec<u8>, source: Source<'_>, token: usize) -> Result<(), A
         Some(found) if found.class == Class::Item => put_item(out, source, token, found.token),
         Some(found) if found.class != Class::Word => put_no_value(out, name, found.class),
         _ if source.arguments(token) > 0 => {
-            put_all(out, &["`", name, "` is no item, and takes no arguments"])
+            put_around(out, "`", name, "` is no item, and takes no arguments")
         }
         _ => put_term(out, source, token),
     }
 }
 
 /// A name of what has no value.
-fn put_no_value(out: &mut Vec<u8>, name: &str, class: Class) -> Result<(), AllocError> {
-    put_all(out, &["`", name, "` is "])?;
+fn put_no_value(out: &mut Vec<u8>, name: &[u8], class: Class) -> Result<(), AllocError> {
+    put_around(out, "`", name, "` is ")?;
     put(out, class_words(class))?;
     put(out, ", and has no value")
 }
@@ -130,13 +130,13 @@ fn put_item(
     let wanted = source.arguments(declared);
     let found = source.arguments(token);
     if wanted != found {
-        put_all(out, &["`", source.word(token)])?;
-        put_counted(out, "` is declared with ", wanted, " arguments, and has ")?;
+        put_around(out, "`", source.word(token), "` is declared with ")?;
+        put_counted(out, "", wanted, " arguments, and has ")?;
         return put_counted(out, "", found, " here");
     }
     match source.asked(token) {
         Some(asked) => {
-            put_all(out, &["`", source.word(token), "` is an item, and "])?;
+            put_around(out, "`", source.word(token), "` is an item, and ")?;
             put_asked(out, source, asked)?;
             put(out, " reads none")
         }
@@ -147,8 +147,8 @@ fn put_item(
 fn put_asked(out: &mut Vec<u8>, source: Source<'_>, asked: Asked) -> Result<(), AllocError> {
     match asked {
         Asked::Argument(item, number) => {
-            put_counted(out, "argument ", number, " of `")?;
-            put_all(out, &[source.word(item), "`"])
+            put_counted(out, "argument ", number, " of ")?;
+            put_around(out, "`", source.word(item), "`")
         }
         Asked::Distance => put(out, "a distance"),
     }
@@ -215,7 +215,7 @@ fn put_sort(out: &mut Vec<u8>, sort: Sort<'_>) -> Result<(), AllocError> {
     match sort {
         Sort::Number => put(out, "a number"),
         Sort::Truth => put(out, "`bool`"),
-        Sort::Words(domain) => put_all(out, &["a word of `", domain, "`"]),
+        Sort::Words(domain) => put_around(out, "a word of `", domain, "`"),
         Sort::Untold => put(out, "of another kind"),
     }
 }

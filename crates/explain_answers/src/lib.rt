@@ -14,8 +14,10 @@ mod range_words;
 mod row_form;
 mod source;
 mod spec_words;
+mod status;
 mod timeline;
 mod verdict_words;
 mod writing;
 
-pub use explain::{MEMORY, explained};
+pub use explain::explained;
+pub use status::Status;

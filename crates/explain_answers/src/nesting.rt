@@ -26,7 +26,7 @@ pub enum Sort<'a> {
     Number,
     Truth,
     /// A word of the domain of this name.
-    Words(&'a str),
+    Words(&'a [u8]),
     /// Not to be told from its first tokens.
     Untold,
 }
@@ -209,13 +209,13 @@ impl<'a> Source<'a> {
     }
 
     /// The name of the domain to which the word that is declared here belongs.
-    fn domain_of_word(self, word: usize) -> &'a str {
+    fn domain_of_word(self, word: usize) -> &'a [u8] {
         for place in (0..word).rev() {
             if self.is_sign(place, Symbol::LeftBrace) {
                 return self.word(place.saturating_sub(2));
             }
         }
-        ""
+        b""
     }
 
     /// The kind of the values of the domain that is named here.

@@ -1,6 +1,6 @@
 //! Sentences on numbers, words and arguments out of range.
 use crate::source::Source;
-use crate::writing::{put, put_all, put_counted};
+use crate::writing::{put_around, put_counted};
 use std::alloc::AllocError;
 use trio_base::limits::{GREATEST_NUMBER, MOST_ARGUMENTS, MOST_INSTANTS, MOST_VALUES};
 use trio_text::{Reserved, Symbol, TokenKind};
@@ -30,13 +30,13 @@ fn put_instants(out: &mut Vec<u8>, source: Source<'_>, token: usize) -> Result<(
         u64::from(MOST_INSTANTS),
         " instants, and this is ",
     )?;
-    put_all(out, &["`", source.word(token), "`"])
+    put_around(out, "`", source.word(token), "`")
 }
 
 /// Whether digits write a number above the greatest.
-fn is_too_great(digits: &str) -> bool {
+fn is_too_great(digits: &[u8]) -> bool {
     let mut value: u32 = 0;
-    for digit in digits.as_bytes() {
+    for digit in digits {
         value = value
             .saturating_mul(10)
             .saturating_add(u32::from(digit.saturating_sub(b'0')));
@@ -51,32 +51,24 @@ fn put_number_limit(out: &mut Vec<u8>, source: Source<'_>, token: usize) -> Resu
         u64::from(GREATEST_NUMBER),
         ", and this is ",
     )?;
-    put_all(out, &["`", source.word(token), "`"])
+    put_around(out, "`", source.word(token), "`")
 }
 
 fn put_at(out: &mut Vec<u8>, source: Source<'_>, token: usize) -> Result<(), AllocError> {
-    put_all(
-        out,
-        &[
-            "the instants are those below `",
-            source.word(1),
-            "`, and this is `",
-            source.word(token),
-            "`",
-        ],
-    )
+    put_around(out, "the instants are those below `", source.word(1), "`")?;
+    put_around(out, ", and this is `", source.word(token), "`")
 }
 
 fn put_domain_end(out: &mut Vec<u8>, source: Source<'_>, token: usize) -> Result<(), AllocError> {
-    let sign = if source.kind_before(token, 1) == Some(TokenKind::Sign(Symbol::Minus)) {
-        "-"
+    let before = if source.kind_before(token, 1) == Some(TokenKind::Sign(Symbol::Minus)) {
+        "the range that ends at `-"
     } else {
-        ""
+        "the range that ends at `"
     };
-    put_all(out, &["the range that ends at `", sign, source.word(token)])?;
+    put_around(out, before, source.word(token), "`")?;
     put_counted(
         out,
-        "` is empty or has more than ",
+        " is empty or has more than ",
         u64::from(MOST_VALUES),
         " values",
     )

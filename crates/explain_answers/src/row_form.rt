@@ -1,4 +1,8 @@
 //! The parts of a history's line: its tokens, its row and its values.
+ghost use Rattle.std.specs.Prelude.{◌≡◌, ◌≤◌, ◌<◌, length, take_while, nat_lt, nat_le, slice_get};
+ghost use Rattle.explain_answers.specs.Sources.{is_of};
+ghost use Rattle.explain_answers.specs.RowForm.{line_at, is_colon, colon_of, begins_value, value_of};
+
 use crate::source::Source;
 use trio_text::{Reserved, Symbol, Token, TokenKind};
 
@@ -34,15 +38,23 @@ enum Next {
 
 impl Source<'_> {
     /// The tokens of the line of this number, from 1.
-    pub fn line(self, number: u64) -> Line {
+    pub fn line(self, number: u64) -> Line
+        ensures is { result ≡ line_at self.entry.tokens.now number }
+        ensures ordered { result.first ≤ result.end }
+        ensures end { result.end ≤ length self.entry.tokens.now }
+    {
         Line {
             first: before_line(self.tokens, number),
-            end: before_line(self.tokens, number.saturating_add(1)),
+            end: through_line(self.tokens, number),
         }
     }
 
     /// The first token with which the line is no row any more, or the one behind its last.
-    pub fn out_of_form(self, line: Line) -> usize {
+    pub fn out_of_form(self, line: Line) -> usize
+        requires { line.first ≤ line.end }
+        ensures from { line.first ≤ result }
+        ensures within { result ≤ line.end }
+    {
         let mut next = Next::Item;
         for token in line.first..line.end {
             next = self.after(next, token);
@@ -63,13 +75,23 @@ impl Source<'_> {
     }
 
     /// The `:` of a line, or the token behind its last.
-    pub fn colon(self, line: Line) -> usize {
+    #[tactic(auto, using(crate::proofs::Scanned::colon_step, crate::proofs::Scanned::colon_end))]
+    pub fn colon(self, line: Line) -> usize
+        ensures is { result ≡ colon_of self.entry.tokens.now line }
+        ensures within { result ≤ line.end }
+    {
         for token in line.first..line.end {
-            if self.is_sign(token, Symbol::Colon) {
+            if self.is_colon(token) {
                 return token;
             }
         }
         line.end
+    }
+
+    fn is_colon(self, token: usize) -> bool
+        ensures { result ≡ is_of is_colon (slice_get self.entry.tokens.now token) }
+    {
+        matches!(self.kind(token), Some(TokenKind::Sign(Symbol::Colon)))
     }
 
     /// How many values stand in a line.
@@ -84,22 +106,29 @@ impl Source<'_> {
     }
 
     /// The first token of the value of this number, from 1, in a line, or the token behind its last.
-    pub fn value(self, line: Line, number: u64) -> usize {
-        let mut count: u64 = 0;
-        for token in self.colon(line).saturating_add(1)..line.end {
+    #[tactic(auto, using(crate::proofs::Scanned::value_found, crate::proofs::Scanned::value_end))]
+    pub fn value(self, line: Line, number: u64) -> usize
+        requires { line.end ≤ length self.tokens.now }
+        ensures { result ≡ value_of self.entry.tokens.now line number }
+    {
+        let mut left = number;
+        for token in self.colon(line) + 1..line.end {
             if self.begins_value(token) {
-                count = count.saturating_add(1);
-            }
-            if count == number {
-                return token;
+                if left <= 1 {
+                    return token;
+                }
+                left -= 1;
             }
         }
         line.end
     }
 
     /// Whether a value of a row begins at this token: it is no number behind `-`.
-    fn begins_value(self, token: usize) -> bool {
-        self.kind_before(token, 1) != Some(TokenKind::Sign(Symbol::Minus))
+    fn begins_value(self, token: usize) -> bool
+        requires { 0 < token }
+        ensures { result ≡ begins_value self.entry.tokens.now token }
+    {
+        !matches!(self.kind(token - 1), Some(TokenKind::Sign(Symbol::Minus)))
     }
 
     /// The first token of the first line that has the same row as a later line, spelled the same.
@@ -131,8 +160,19 @@ impl Source<'_> {
 }
 
 /// How many tokens stand on the lines before this one.
-fn before_line(tokens: &[Token], line: u64) -> usize {
+fn before_line(tokens: &[Token], line: u64) -> usize
+    ensures is { result ≡ length (take_while (λ token. nat_lt token.line line) tokens.now) }
+    ensures few { result ≤ length tokens.now }
+{
     tokens.iter().take_while(|token| token.line < line).count()
+}
+
+/// How many tokens stand on the lines up to this one.
+fn through_line(tokens: &[Token], line: u64) -> usize
+    ensures is { result ≡ length (take_while (λ token. nat_le token.line line) tokens.now) }
+    ensures few { result ≤ length tokens.now }
+{
+    tokens.iter().take_while(|token| token.line <= line).count()
 }
 
 /// What may stand behind a symbol.

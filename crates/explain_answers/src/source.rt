@@ -1,5 +1,9 @@
 //! A text with its tokens and the name of its file.
-use std::str;
+ghost use Rattle.std.specs.Prelude.{◌≡◌, ◌-◌, take, drop, slice_get};
+ghost use Rattle.std.specs.Option.{option_map};
+ghost use Rattle.explain_answers.specs.Sources.{end_before, start_of, word_of};
+
+use crate::place::parted;
 use trio_text::{Reserved, Symbol, Token, TokenKind};
 
 /// A text, the name of its file, and its tokens; none where a byte of it begins no token.
@@ -29,7 +33,9 @@ pub struct Declared {
 
 impl<'a> Source<'a> {
     /// The kind of the token of this number.
-    pub fn kind(self, token: usize) -> Option<TokenKind> {
+    pub fn kind(self, token: usize) -> Option<TokenKind>
+        ensures { result ≡ option_map (λ found. found.kind) (slice_get self.entry.tokens.now token) }
+    {
         match self.tokens.get(token) {
             Some(found) => Some(found.kind),
             None => None,
@@ -56,15 +62,19 @@ impl<'a> Source<'a> {
     }
 
     /// How the token of this number is spelled; empty where there is none.
-    pub fn word(self, token: usize) -> &'a str {
+    pub fn word(self, token: usize) -> &'a [u8]
+        ensures { result.now ≡ word_of self.entry.text.now (slice_get self.entry.tokens.now token) }
+    {
         match self.tokens.get(token) {
             Some(found) => spelled(self.text, found.start as usize, found.end as usize),
-            None => "",
+            None => b"",
         }
     }
 
     /// The byte at which a token starts; where there is no such token, the byte behind the last one.
-    pub fn start(self, token: usize) -> usize {
+    pub fn start(self, token: usize) -> usize
+        ensures { result ≡ start_of self.entry.tokens.now token }
+    {
         match self.tokens.get(token) {
             Some(found) => found.start as usize,
             None => self.end_before(self.tokens.len()),
@@ -72,7 +82,9 @@ impl<'a> Source<'a> {
     }
 
     /// The byte behind the token that stands before this one; 0 where none does.
-    pub fn end_before(self, token: usize) -> usize {
+    pub fn end_before(self, token: usize) -> usize
+        ensures { result ≡ end_before self.entry.tokens.now token }
+    {
         if token == 0 {
             return 0;
         }
@@ -91,7 +103,7 @@ impl<'a> Source<'a> {
     }
 
     /// How the value that begins at this token is spelled.
-    pub fn value_word(self, token: usize) -> &'a str {
+    pub fn value_word(self, token: usize) -> &'a [u8] {
         if self.is_sign(token, Symbol::Minus) {
             self.spelled_up_to(token, token.saturating_add(1))
         } else {
@@ -100,7 +112,7 @@ impl<'a> Source<'a> {
     }
 
     /// The text from the one token to the end of the other.
-    fn spelled_up_to(self, first: usize, last: usize) -> &'a str {
+    fn spelled_up_to(self, first: usize, last: usize) -> &'a [u8] {
         spelled(
             self.text,
             self.start(first),
@@ -109,7 +121,7 @@ impl<'a> Source<'a> {
     }
 
     /// The declaration of a name as a domain, word, item, axiom or goal, at the first token that is one.
-    pub fn declared(self, name: &str) -> Option<Declared> {
+    pub fn declared(self, name: &[u8]) -> Option<Declared> {
         let mut in_braces = false;
         for token in 0..self.tokens.len() {
             in_braces = self.braces_open(token, in_braces);
@@ -143,7 +155,7 @@ impl<'a> Source<'a> {
     }
 
     /// The last quantifier's variable of this name before a token. Where the token stands in its body, it is the innermost.
-    pub fn variable_before(self, token: usize, name: &str) -> Option<usize> {
+    pub fn variable_before(self, token: usize, name: &[u8]) -> Option<usize> {
         for place in (0..token).rev() {
             if self.is_variable(place) && self.word(place) == name {
                 return Some(place);
@@ -181,13 +193,9 @@ impl<'a> Source<'a> {
     }
 }
 
-/// The text between two places; empty where there is none.
-fn spelled(text: &[u8], start: usize, end: usize) -> &str {
-    if start > end || end > text.len() {
-        return "";
-    }
-    match str::from_utf8(&text[start..end]) {
-        Ok(word) => word,
-        Err(_) => "",
-    }
+/// The text from the one byte up to the other; empty where there is none.
+fn spelled(text: &[u8], start: usize, end: usize) -> &[u8]
+    ensures { result.now ≡ take (end - start) (drop start text.now) }
+{
+    parted(parted(text, start).1, end.saturating_sub(start)).0
 }

@@ -1,5 +1,6 @@
 //! Words and numbers put behind a text.
 ghost use Rattle.std.specs.Prelude.{◌≡◌, ◌++◌, decimal, OnOk};
+ghost use Rattle.std.specs.List.{flat_map};
 
 use itoa::Buffer;
 use std::alloc::AllocError;
@@ -11,8 +12,24 @@ pub fn put(out: &mut Vec<u8>, words: &str) -> Result<(), AllocError>
     out.extend_from_slice(words.as_bytes())
 }
 
+/// Puts words, bytes of a text and words behind a text.
+pub fn put_around(
+    out: &mut Vec<u8>,
+    before: &str,
+    bytes: &[u8],
+    behind: &str,
+) -> Result<(), AllocError>
+    ensures { OnOk result (out.new.items ≡ out.old.items ++ before.now ++ bytes.now ++ behind.now) }
+{
+    put(out, before)?;
+    out.extend_from_slice(bytes)?;
+    put(out, behind)
+}
+
 /// Puts texts behind another, in a row.
-pub fn put_all(out: &mut Vec<u8>, pieces: &[&str]) -> Result<(), AllocError> {
+pub fn put_all(out: &mut Vec<u8>, pieces: &[&str]) -> Result<(), AllocError>
+    ensures { OnOk result (out.new.items ≡ out.old.items ++ flat_map (λ piece. piece.now) pieces.now) }
+{
     for piece in pieces {
         put(out, piece)?;
     }

@@ -1,7 +1,7 @@
 //! `trio_explain`: says in words, with the place in the text, what `trio` answers in short.
 #![tactic(auto)]
 
-use explain_answers::{MEMORY, explained};
+use explain_answers::{Status, explained};
 use std::process::ExitCode;
 use std::rt::{Env, Files};
 use std::{env, io};
@@ -11,22 +11,22 @@ use trio_io::{FileShelf, OutSink};
 mod tests;
 
 /// The words behind the program's name. `Err` is want of memory; words that are no text count as none.
-fn words_given<R: Env + AllocGlobal>(rt: &R) -> Result<Vec<String>, u8> {
+fn words_given<R: Env + AllocGlobal>(rt: &R) -> Result<Vec<String>, Status> {
     let mut words = Vec::new(rt.alloc());
     match env::args(rt) {
         Ok(given) => {
             for word in given.skip(1) {
-                words.push(word).map_err(|_| MEMORY)?;
+                words.push(word).map_err(|_| Status::Memory)?;
             }
             Ok(words)
         }
-        Err(error) if error.kind() == io::ErrorKind::OutOfMemory => Err(MEMORY),
+        Err(error) if error.kind() == io::ErrorKind::OutOfMemory => Err(Status::Memory),
         Err(_) => Ok(words),
     }
 }
 
 /// Serves the words over real files and standard output.
-fn served<R: Env + Files + Print + AllocGlobal>(rt: &R) -> u8 {
+fn served<R: Env + Files + Print + AllocGlobal>(rt: &R) -> Status {
     match words_given(rt) {
         Ok(words) => {
             let mut shelf = FileShelf::new(rt);
@@ -38,5 +38,5 @@ fn served<R: Env + Files + Print + AllocGlobal>(rt: &R) -> u8 {
 }
 
 fn main(rt: HostRuntime) -> ExitCode {
-    ExitCode::from(served(&rt))
+    ExitCode::from(served(&rt).number())
 }

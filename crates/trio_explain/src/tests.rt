@@ -13,7 +13,7 @@ fn answered(alloc: Global, line: &str, files: Files) -> Result<Vec<u8>, AllocErr
     for word in line.split_whitespace() {
         words.push(String::from_str(alloc, word)?)?;
     }
-    let status = explained(alloc, words.as_slice(), &mut shelf, &mut out);
+    let status = explained(alloc, words.as_slice(), &mut shelf, &mut out).number();
     let mut text = format!(in alloc; "{status} ")?.into_bytes();
     text.extend_from_slice(out.written())?;
     Ok(text)

@@ -1,0 +1,39 @@
+//! How a command ended.
+ghost use Rattle.std.specs.Prelude.{◌≡◌};
+ghost use Rattle.explain_answers.specs.Status.{status_number};
+
+/// How a command ended, as `trio` ends it.
+#[derive(Clone, Copy, Debug, PartialEq, Eq)]
+pub enum Status {
+    /// The specification is true in the history, or both can be read.
+    Done,
+    /// The specification is false in the history.
+    False,
+    /// The words are no command.
+    Usage,
+    /// A text was refused.
+    Refused,
+    /// A file is not there, or could not be read.
+    ReadFault,
+    /// A write failed.
+    WriteFault,
+    /// Want of memory.
+    Memory,
+}
+
+impl Status {
+    /// The number with which the program ends.
+    pub fn number(self) -> u8
+        ensures { result ≡ status_number self }
+    {
+        match self {
+            Status::Done => 0,
+            Status::False => 1,
+            Status::Usage => 2,
+            Status::Refused => 4,
+            Status::ReadFault => 5,
+            Status::WriteFault => 6,
+            Status::Memory => 7,
+        }
+    }
+}
