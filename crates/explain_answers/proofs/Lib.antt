@@ -3,3 +3,4 @@ pub mod Histories
 pub mod Refusals
 pub mod Scanned
 pub mod Serving
+pub mod Told

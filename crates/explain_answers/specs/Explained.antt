@@ -2,7 +2,7 @@
 -- sink.
 use Rattle.std.specs.Prelude.{◌≡◌, ℕ, ◌≤◌, ◌⊎◌, Bool, true, false, List, ◌++◌, length, map, Option, None, Some, codes}
 use Rattle.trio_base.specs.declared.limits.TheConstants.{MOST_SPEC_BYTES, MOST_HISTORY_BYTES}
-use Rattle.trio_io.specs.Outside.{ShelfView, SinkView, Holds, IsLonger, HasFetchCause, Writes, WritesPart}
+use Rattle.trio_io.specs.Outside.{ShelfView, SinkView, Rose, Holds, IsLonger, HasFetchCause, Writes, WritesPart}
 use Rattle.trio_text.specs.declared.token.Token.{Token}
 use Rattle.trio_types.specs.declared.spec.Spec.{Spec}
 use Rattle.trio_types.specs.World.{World}
@@ -174,3 +174,15 @@ pub record Finishes (asked : Option Asked) (before now : ShelfView) (old new : S
   pub text : List ℕ
   pub answers : Answers asked before now s text
   pub said : Said s text old new result
+
+-- a failed fetch was counted, or an absence
+abbrev pub CountsFetch : ShelfView → ShelfView → Type 0
+CountsFetch before now = Rose before.counts.failed_fetches now.counts.failed_fetches ⊎ Rose before.counts.absences now.counts.absences
+
+-- what each status tells: the words are no command, a fetch failed, a write failed, memory was wanting, or what was written is said of the texts
+abbrev pub TellsStatus : Option Asked → ShelfView → ShelfView → SinkView → SinkView → Status → Type 0
+TellsStatus asked before now old new status.Usage = (asked ≡ None) × (now ≡ before) × Writes old new usage_line
+TellsStatus asked before now old new status.ReadFault = CountsFetch before now
+TellsStatus asked before now old new status.WriteFault = Rose old.faults new.faults
+TellsStatus asked before now old new status.Memory = Writes old new memory_line
+TellsStatus asked before now old new s = (text : List ℕ) × SaysOf asked before now s text × Writes old new text

@@ -10,7 +10,7 @@ ghost use Rattle.explain_answers.specs.Command.{word_bytes, asked_of};
 ghost use Rattle.explain_answers.specs.Sources.{AreTokensOf};
 ghost use Rattle.explain_answers.specs.SpecWords.{SaysSpecFault};
 ghost use Rattle.explain_answers.specs.HistoryWords.{SaysHistoryFault};
-ghost use Rattle.explain_answers.specs.Explained.{usage_line, memory_line, unread_line, most_bytes, IsFile, FileEnds, SpecEnds, IsSpecFile, HistoryEnds, IsHistoryFile, SaysVerdict, Tells, Serves, SaysOf, Said, Finishes};
+ghost use Rattle.explain_answers.specs.Explained.{usage_line, memory_line, unread_line, most_bytes, IsFile, FileEnds, SpecEnds, IsSpecFile, HistoryEnds, IsHistoryFile, SaysVerdict, Tells, Serves, SaysOf, Said, Finishes, TellsStatus};
 
 use crate::command::{Command, Task, read_words};
 use crate::given_words::readable_line;
@@ -52,8 +52,24 @@ pub fn explained<F: Shelf, K: Sink>(
     shelf: &mut F,
     out: &mut K,
 ) -> Status
+    // The one statement that the others read out: what was said has its cause, or the writing of it failed.
+    ensures finishes { Finishes (asked_of (word_bytes words.now)) (F.seen shelf.old) (F.seen shelf.new) (K.seen out.old) (K.seen out.new) result }
+
+    // What each status tells.
+    ensures tells { TellsStatus (asked_of (word_bytes words.now)) (F.seen shelf.old) (F.seen shelf.new) (K.seen out.old) (K.seen out.new) result }
+
+    // Words that are no command fetch nothing; no other words have the shelf called more than twice, and no file changes.
+    ensures unfetched { asked_of (word_bytes words.now) ≡ None → F.seen shelf.new ≡ F.seen shelf.old }
+    ensures reads { OnlyReads 2 (F.seen shelf.old) (F.seen shelf.new) }
+{
+    run(alloc, words, shelf, out)
+}
+
+/// What is said of the words, written.
+fn run<F: Shelf, K: Sink>(alloc: Global, words: &[String], shelf: &mut F, out: &mut K) -> Status
     ensures reads { OnlyReads 2 (F.seen shelf.old) (F.seen shelf.new) }
     ensures finishes { Finishes (asked_of (word_bytes words.now)) (F.seen shelf.old) (F.seen shelf.new) (K.seen out.old) (K.seen out.new) result }
+    ensures unfetched { asked_of (word_bytes words.now) ≡ None → F.seen shelf.new ≡ F.seen shelf.old }
 {
     match answered(alloc, words, shelf) {
         Ok(answer) => give(out, answer.status, answer.text.as_slice()),
@@ -73,6 +89,7 @@ fn give<K: Sink>(out: &mut K, status: Status, text: &[u8]) -> Status
 
 fn answered<F: Shelf>(alloc: Global, words: &[String], shelf: &mut F) -> Result<Answer, AllocError>
     ensures reads { OnlyReads 2 (F.seen shelf.old) (F.seen shelf.new) }
+    ensures unfetched { asked_of (word_bytes words.now) ≡ None → F.seen shelf.new ≡ F.seen shelf.old }
     ensures says { IfOk result (λ answer. SaysOf (asked_of (word_bytes words.now)) (F.seen shelf.old) (F.seen shelf.new) answer.status answer.text.items) }
 {
     match read_words(words) {
