@@ -1,13 +1,13 @@
 //! The shelf of the real files. It tells nothing of what they hold.
-ghost use Rattle.std.specs.Prelude.{◌≡◌, ◌++◌, ◌<◌, false, List, ℕ, length, IfSome, OnOk, OnErr};
+ghost use Rattle.std.specs.Prelude.{◌≡◌, ◌++◌, ◌<◌, false, List, ℕ, length, IfSome, IsOkAnd, OnOk, OnErr};
 ghost use Rattle.trio_io.specs.Outside.{ShelfView, Fetched};
 ghost use Rattle.trio_io.specs.RealShelf.{untold};
 
 use crate::shelf::{Shelf, ShelfFault};
-use std::fs;
 use std::fs::File;
 use std::io::{ErrorKind, Read};
 use std::rt::Files;
+use std::{fs, io};
 
 /// The files that the runtime reaches. It counts each failed fetch, also of a file that is not there, and each failed
 /// put; its other counts stay 0.
@@ -35,10 +35,7 @@ impl<'a, R: Files> Shelf for FileShelf<'a, R> {
     ghost seen = { λ shelf. untold shelf.failed_fetches shelf.failed_puts };
 
     fn fetch(&mut self, name: &str, max: u64, into: &mut Vec<u8>) -> Result<(), ShelfFault> {
-        let read = match File::open(self.rt, name) {
-            Ok(file) => read_up_to(file, max, into),
-            Err(_) => Err(ShelfFault::Failed),
-        };
+        let read = read_up_to(File::open(self.rt, name), max, into);
         if let Err(ShelfFault::Failed) = read {
             self.failed_fetches = self.failed_fetches.saturating_add(1);
         }
@@ -56,13 +53,20 @@ impl<'a, R: Files> Shelf for FileShelf<'a, R> {
     }
 }
 
-/// Appends all that the reader has left, where that is at most `max` bytes.
-fn read_up_to<R: Read + Drop>(reader: R, max: u64, into: &mut Vec<u8>) -> Result<(), ShelfFault>
+/// Appends all that an opened reader has left, where that is at most `max` bytes. What could not be opened fails.
+fn read_up_to<R: Read + Drop>(
+    opened: io::Result<R>,
+    max: u64,
+    into: &mut Vec<u8>,
+) -> Result<(), ShelfFault>
     ensures ok { OnOk result ((shelf : ShelfView) (name : List ℕ) → shelf.tells ≡ false → Fetched shelf name max into.old.items into.new.items) }
-    ensures told { OnOk result (IfSome (R.remaining reader) (λ bytes. into.new.items ≡ into.old.items ++ bytes)) }
-    ensures long { result ≡ Err ShelfFault.TooLong → IfSome (R.remaining reader) (λ bytes. max < length bytes) }
+    ensures told { OnOk result (IsOkAnd opened (λ reader. IfSome (R.remaining reader) (λ bytes. into.new.items ≡ into.old.items ++ bytes))) }
+    ensures long { result ≡ Err ShelfFault.TooLong → IsOkAnd opened (λ reader. IfSome (R.remaining reader) (λ bytes. max < length bytes)) }
     ensures err { OnErr result (into.new.items ≡ into.old.items) }
 {
+    let Ok(reader) = opened else {
+        return Err(ShelfFault::Failed);
+    };
     let start = into.len();
     let fault = match reader.take(max.saturating_add(1)).read_to_end(into) {
         Ok(count) if count as u64 <= max => return Ok(()),

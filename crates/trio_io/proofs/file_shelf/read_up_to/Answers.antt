@@ -4,6 +4,6 @@ use Rattle.std.proofs.lemmas.Grind.{common_steps}
 use Rattle.trio_io.proofs.Fetches.{appended}
 use Rattle.trio_io.proofs.file_shelf.read_up_to.Goals as goal
 
-pub returns-in-Ok-clause-ok : goal.returns-in-Ok-clause-ok
-returns-in-Ok-clause-ok g c = λ shelf name untold.
-    appended shelf name _ _ c.in-Ok.count _ untold c.in-Ok.ensures.appends (grind (arith, common_steps)) c.if-count-max.true
+pub returns-in-Ok-read_to_end-clause-ok : goal.returns-in-Ok-read_to_end-clause-ok
+returns-in-Ok-read_to_end-clause-ok g c = λ shelf name untold.
+    appended shelf name _ _ c.in-Ok-read_to_end.count _ untold c.in-Ok-read_to_end.ensures.appends (grind (arith, common_steps)) c.if-count-max.true
