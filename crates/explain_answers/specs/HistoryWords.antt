@@ -1,23 +1,18 @@
 -- What is said of the first fault of a history's text.
 use Rattle.std.specs.Prelude.{◌≡◌, ℕ, ◌+◌, ◌≤◌, nat_lt, if◌then◌else◌, List, [], ◌++◌, Option, None, Some, slice_get, codes}
-use Rattle.std.specs.Option.{option_map, option_and_then, unwrap_or}
+use Rattle.std.specs.Option.{option_and_then}
 use Rattle.trio_text.specs.declared.token.Token.{Token}
 use Rattle.trio_types.specs.declared.spec.Item.{Item}
 use Rattle.trio_types.specs.World.{World}
-use Rattle.trio_types.specs.Cells.{rows_of}
 use Rattle.history_table.specs.declared.fault.HistFault.{HistFault}
 use Rattle.history_table.specs.declared.fault.HistFault.TheVariants as fault
-use Rattle.history_table.specs.Printed.{row_name}
+use Rattle.history_table.specs.Printed.{name_of_row}
 use Rattle.history_table.specs.Rows.{item_named}
 use Rattle.explain_answers.specs.declared.row_form.Line.{Line}
 use Rattle.explain_answers.specs.Sources.{start_of, word_of}
 use Rattle.explain_answers.specs.RowForm.{line_at, byte_in, value_of}
 use Rattle.explain_answers.specs.Said.{said_at, SaysAt, BeginsWith}
 use Rattle.explain_answers.specs.SpecWords.{byte_sentence, found_words}
-
--- the printed name of the row of this number
-abbrev pub name_of_row : World → ℕ → List ℕ
-name_of_row world row = unwrap_or (option_map (row_name world) (slice_get (rows_of world) row)) []
 
 -- the line on a row that no line is
 abbrev pub missing_line : World → List ℕ → ℕ → List ℕ

@@ -10,7 +10,7 @@ use Rattle.trio_types.specs.declared.spec.Spec.{Spec}
 use Rattle.trio_types.specs.World.{World}
 use Rattle.explain_answers.specs.Sources.{start_of, is_of}
 use Rattle.explain_answers.specs.Said.{said_at}
-use Rattle.explain_answers.specs.HistoryWords.{name_of_row}
+use Rattle.history_table.specs.Printed.{name_of_row}
 
 abbrev pub is_axiom : TokenKind → Bool
 is_axiom (kind.Word reserved.Axiom) = true

@@ -1,6 +1,7 @@
 //! Lines on counts above their limits, and on files that are too long.
 ghost use Rattle.std.specs.Prelude.{◌≡◌, ◌++◌, codes, decimal, IfOk, OnOk};
-ghost use Rattle.explain_answers.specs.LimitWords.{counted, limit, limit_line, too_long_line};
+ghost use Rattle.trio_types.specs.Limits.{limit_of};
+ghost use Rattle.explain_answers.specs.LimitWords.{counted, limit_line, too_long_line};
 
 use crate::writing::{put, put_counted};
 use std::alloc::{AllocError, Global};
@@ -43,7 +44,7 @@ fn counted(which: Which) -> &'static str
 }
 
 fn limit(which: Which) -> u64
-    ensures { result ≡ limit which }
+    ensures { result ≡ limit_of which }
 {
     match which {
         Which::Items => u64::from(MOST_ITEMS),

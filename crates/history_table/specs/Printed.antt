@@ -1,13 +1,13 @@
 -- The names of rows as they are printed.
 use Rattle.std.specs.Prelude.{ℕ, pos, ◌+ℤ◌, List, [], ◌∷◌, ◌++◌, Option, None, Some, slice_get}
-use Rattle.std.specs.Option.{unwrap_or}
+use Rattle.std.specs.Option.{option_map, unwrap_or}
 use Rattle.std.specs.Fmt.{signed_decimal}
 use Rattle.trio_types.specs.declared.spec.DomainKind.{DomainKind}
 use Rattle.trio_types.specs.declared.spec.DomainKind.TheVariants as kind
 use Rattle.trio_types.specs.declared.spec.Domain.{Domain}
 use Rattle.trio_types.specs.declared.spec.Item.{Item}
 use Rattle.trio_types.specs.World.{World}
-use Rattle.trio_types.specs.Cells.{Row}
+use Rattle.trio_types.specs.Cells.{Row, rows_of}
 use Rattle.trio_types.specs.Kinds.{args_of}
 
 -- the value of this index: `0` and `1` for bool, the number for a range, the word for a list
@@ -42,3 +42,7 @@ name_of_item (Some item) = item.name
 abbrev pub row_name : World → Row → List ℕ
 row_name world row =
     name_of_item (slice_get world.items row.item) ++ args_text world (args_of (slice_get world.items row.item)) row.args
+
+-- the printed name of the row of this number; empty where there is no such row
+abbrev pub name_of_row : World → ℕ → List ℕ
+name_of_row world row = unwrap_or (option_map (row_name world) (slice_get (rows_of world) row)) []

@@ -16,7 +16,8 @@ use Rattle.trio_main.specs.declared.fault.Fault.{Fault}
 use Rattle.trio_main.specs.declared.fault.Fault.TheVariants as fault
 use Rattle.trio_main.specs.declared.command.Command.{Command}
 use Rattle.trio_main.specs.declared.command.Command.TheVariants as command
-use Rattle.trio_main.specs.Row.{name_of_row, row_of, instant_of}
+use Rattle.trio_main.specs.Row.{row_of, instant_of}
+use Rattle.history_table.specs.Printed.{name_of_row}
 use Rattle.trio_main.specs.Message.{SaysFault}
 use Rattle.trio_main.specs.Text.{text_of}
 use Rattle.trio_main.specs.Load.{LoadFault, IsLoaded}

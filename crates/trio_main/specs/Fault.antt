@@ -8,7 +8,7 @@ use Rattle.trio_main.specs.declared.status.Status.{Status}
 use Rattle.trio_main.specs.declared.status.Status.TheVariants as status
 use Rattle.trio_main.specs.declared.fault.Fault.{Fault}
 use Rattle.trio_main.specs.declared.fault.Fault.TheVariants as fault
-use Rattle.trio_main.specs.Row.{name_of_row}
+use Rattle.history_table.specs.Printed.{name_of_row}
 
 -- how a command with this fault ends
 abbrev pub status_of : Fault → Status
