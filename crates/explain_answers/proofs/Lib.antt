@@ -1,5 +1,4 @@
 pub mod Fetched
-pub mod Histories
 pub mod Refusals
 pub mod Scanned
 pub mod Serving

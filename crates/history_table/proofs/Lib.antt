@@ -6,6 +6,7 @@ mod Arguments
 mod RowNumbers
 mod Fits
 pub mod Answered
+pub mod Faults
 mod PrintedLines
 mod PrintedValues
 mod Whole

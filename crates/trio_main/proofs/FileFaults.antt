@@ -18,7 +18,7 @@ use Rattle.trio_main.specs.Fault.{status_of, spec_refusal, history_refusal}
 use Rattle.trio_main.specs.Message.{SaysFault}
 use Rattle.trio_main.specs.Refusal.{TellsRefused}
 use Rattle.trio_main.specs.Load.{FileFault, YieldsSpec, YieldsHistory, LoadFault}
-use Rattle.trio_main.proofs.Histories.{no_want}
+use Rattle.history_table.proofs.Faults.{no_want}
 
 -- the faults that an answer due can name: those of files
 abbrev pub IsOfFile : Fault → Type 0

@@ -6,7 +6,6 @@ pub mod CompleteTold
 pub mod Completes
 pub mod Completions
 pub mod FileFaults
-pub mod Histories
 pub mod Jobs
 pub mod ListPieces
 pub mod Loaded

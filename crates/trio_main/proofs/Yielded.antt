@@ -15,7 +15,7 @@ use Rattle.trio_main.specs.declared.fault.Text.TheVariants as text
 use Rattle.trio_main.specs.declared.fault.Fault.{Fault}
 use Rattle.trio_main.specs.Fault.{spec_refusal, history_refusal}
 use Rattle.trio_main.specs.Load.{most_bytes, IsFile, FileFault, Yields, ReadsSpec, ReadsHistory, YieldsSpec, YieldsHistory, LoadFault, IsLoaded}
-use Rattle.trio_main.proofs.Histories.{no_want, fault_answers}
+use Rattle.history_table.proofs.Faults.{no_want, fault_answers}
 
 pub same_world : (a b : Spec) → parts_of a ≡ parts_of b → world_of a ≡ world_of b
 same_world a b same = ap world_of_parts same

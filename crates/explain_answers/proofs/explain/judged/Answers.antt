@@ -1,7 +1,7 @@
 -- A given history in which every value is known is a table of the specification, and its first unknown cell is one of the specification's.
 use Rattle.trio_types.specs.Verdict.{world_of}
 use Rattle.history_table.proofs.Tables.{table_fits}
-use Rattle.explain_answers.proofs.Histories.{unknown_within}
+use Rattle.history_table.proofs.Faults.{unknown_within}
 use Rattle.explain_answers.proofs.explain.judged.Goals as goal
 
 pub verdict_on-requires : goal.verdict_on-requires

@@ -3,7 +3,7 @@ use Rattle.std.proofs.Common.{Err, subst}
 use Rattle.trio_types.specs.Verdict.{world_of}
 use Rattle.history_table.specs.declared.fault.HistFault.{HistFault}
 use Rattle.history_table.specs.History.{IsHistoryAnswer}
-use Rattle.trio_main.proofs.Histories.{missing_within}
+use Rattle.history_table.proofs.Faults.{missing_within}
 use Rattle.trio_main.proofs.load.load_history.Goals as goal
 
 pub of_history-requires : goal.of_history-requires
