@@ -11,7 +11,7 @@ use sqlite_items::Boxed;
 use std::alloc::{AllocError, Global};
 use trio_scope::{Binder, Scope};
 use trio_syntax::{ClaimTree, FormulaTree, PartTree, Quantifier, TermShape, TermTree, Written};
-use trio_types::{Axiom, Axioms, Formula, Formulas, List, SignedTerm, SignedTerms, Term, Terms};
+use trio_types::{Axiom, Axioms, Formula, Formulas, List, Rel, SignedTerm, SignedTerms, Term, Terms};
 
 /// The axioms of a tree, or its goals; only want of memory refuses them.
 pub fn claims_of(alloc: Global, scope: &Scope<'_>, goals: bool) -> Result<Axioms, AllocError>
@@ -62,9 +62,7 @@ fn formula_of<'a>(
             Ok(Formula::Lone(term_of(alloc, scope, around.as_slice(), term)?))
         }
         FormulaTree::Compare(rel, _, left, right) => {
-            let left = term_of(alloc, scope, around.as_slice(), left)?;
-            let right = term_of(alloc, scope, around.as_slice(), right)?;
-            Ok(Formula::Compare(*rel, left, right))
+            compared_of(alloc, scope, around.as_slice(), *rel, left, right)
         }
         FormulaTree::Not(part) => Ok(Formula::Not(boxed_of(alloc, scope, around, part.get())?)),
         FormulaTree::And(parts) => {
@@ -101,6 +99,22 @@ fn formula_of<'a>(
             Ok(Formula::Pair(*op, left, right))
         }
     }
+}
+
+/// A comparison of two terms.
+fn compared_of(
+    alloc: Global,
+    scope: &Scope<'_>,
+    around: &[Binder<'_>],
+    rel: Rel,
+    left: &TermTree,
+    right: &TermTree,
+) -> Result<Formula, AllocError>
+    ensures { IfOk result (λ made. made ≡ Formula.Compare rel (spec.term_of scope.now.tree.now left.now (variables_from around.now)) (spec.term_of scope.now.tree.now right.now (variables_from around.now))) }
+{
+    let left = term_of(alloc, scope, around, left)?;
+    let right = term_of(alloc, scope, around, right)?;
+    Ok(Formula::Compare(rel, left, right))
 }
 
 #[cycle(building)]
