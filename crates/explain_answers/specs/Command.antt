@@ -1,7 +1,7 @@
 -- Which words are which command.
-use Rattle.std.specs.Prelude.{ℕ, Bool, true, false, not, ◌&&◌, ◌==◌, if◌then◌else◌, List, [], ◌∷◌, map, Option, None, Some, String, string_bytes, codes}
+use Rattle.std.specs.Prelude.{ℕ, ◌&&◌, if◌then◌else◌, List, [], ◌∷◌, Option, None, Some, codes}
 use Rattle.std.specs.Str.{bytes_eq}
-use Rattle.std.specs.declared.alloc.Global.{Global}
+use Rattle.trio_io.specs.Words.{names_a_file}
 use Rattle.explain_answers.specs.declared.command.Task.{Task}
 use Rattle.explain_answers.specs.declared.command.Task.TheVariants as task
 
@@ -10,16 +10,6 @@ pub record Asked : Type 0 where
   pub task_ : Task
   pub spec : List ℕ
   pub history : List ℕ
-
--- the words' bytes
-abbrev pub word_bytes : List (String Global) → List (List ℕ)
-word_bytes words = map string_bytes words
-
--- a word that names a file: it is not empty and does not begin with `--`
-abbrev pub names_a_file : List ℕ → Bool
-names_a_file [] = false
-names_a_file (a ∷ b ∷ word) = not (a == 45 && b == 45)
-names_a_file word = true
 
 -- the task of a word
 abbrev pub task_of : List ℕ → Option Task

@@ -1,6 +1,9 @@
 //! The words of the command line.
 ghost use Rattle.std.specs.Prelude.{◌≡◌, ◌∷◌, [], Some, None, MatchOption};
-ghost use Rattle.explain_answers.specs.Command.{word_bytes, names_a_file, task_of, asked_on, asked_of};
+ghost use Rattle.trio_io.specs.Words.{word_bytes};
+ghost use Rattle.explain_answers.specs.Command.{task_of, asked_on, asked_of};
+
+use trio_io::is_file_name;
 
 /// What a command does with a specification and a history.
 #[derive(Clone, Copy, PartialEq, Eq)]
@@ -54,16 +57,5 @@ fn task_of(word: &str) -> Option<Task>
         Some(Task::Complete)
     } else {
         None
-    }
-}
-
-/// Whether a word names a file: it is not empty and does not begin with `--`.
-fn is_file_name(word: &str) -> bool
-    ensures { result ≡ names_a_file word.now }
-{
-    match word.as_bytes() {
-        [] => false,
-        [b'-', b'-', ..] => false,
-        _ => true,
     }
 }

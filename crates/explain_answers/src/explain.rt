@@ -1,12 +1,13 @@
 //! What is said of a command: a text for people, and the status with which `trio` ends.
 ghost use Rattle.std.specs.Prelude.{◌≡◌, ◌≤◌, ◌<◌, ◌⊎◌, ◌++◌, ℕ, length, codes, Some, None, IfOk, MatchResult};
 ghost use Rattle.trio_io.specs.Outside.{OnlyReads};
+ghost use Rattle.trio_io.specs.Words.{word_bytes};
 ghost use Rattle.trio_types.specs.Cells.{IsTable, rows_of};
 ghost use Rattle.trio_types.specs.Verdict.{world_of, first_false};
 ghost use Rattle.trio_reader.specs.Reading.{HasFault};
 ghost use Rattle.history_table.specs.History.{HasHistFault};
 ghost use Rattle.history_table.specs.Fitting.{IsGiven};
-ghost use Rattle.explain_answers.specs.Command.{word_bytes, asked_of};
+ghost use Rattle.explain_answers.specs.Command.{asked_of};
 ghost use Rattle.explain_answers.specs.Sources.{AreTokensOf};
 ghost use Rattle.explain_answers.specs.SpecWords.{SaysSpecFault};
 ghost use Rattle.explain_answers.specs.HistoryWords.{SaysHistoryFault};

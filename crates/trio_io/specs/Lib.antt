@@ -2,3 +2,4 @@ pub mod MemoryShelf
 pub mod MemorySink
 pub mod Outside
 pub mod RealShelf
+pub mod Words

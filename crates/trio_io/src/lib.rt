@@ -12,6 +12,7 @@ mod out_sink;
 mod shelf;
 mod sink;
 mod sure;
+mod words;
 
 pub use bell::{Bell, StillBell};
 pub use file_shelf::FileShelf;
@@ -26,6 +27,7 @@ pub use out_sink::OutSink;
 pub use shelf::{Shelf, ShelfFault};
 pub use sink::{Sink, SinkFault, write_pieces, write_whole};
 pub use sure::{SureShelf, SureSink};
+pub use words::is_file_name;
 
 #[cfg(test)]
 mod tests;

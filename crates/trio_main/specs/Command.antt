@@ -1,19 +1,9 @@
 -- Which words are which command, and which files it reads and saves.
-use Rattle.std.specs.Prelude.{ℕ, ◌+◌, Bool, true, false, not, ◌&&◌, ◌==◌, if◌then◌else◌, List, [], ◌∷◌, map, Option, None, Some, String, string_bytes, codes}
+use Rattle.std.specs.Prelude.{ℕ, ◌+◌, ◌&&◌, if◌then◌else◌, List, [], ◌∷◌, Option, None, Some, codes}
 use Rattle.std.specs.Str.{bytes_eq}
-use Rattle.std.specs.declared.alloc.Global.{Global}
+use Rattle.trio_io.specs.Words.{names_a_file}
 use Rattle.trio_main.specs.declared.command.Command.{Command}
 use Rattle.trio_main.specs.declared.command.Command.TheVariants as command
-
--- the words' bytes
-abbrev pub word_bytes : List (String Global) → List (List ℕ)
-word_bytes words = map string_bytes words
-
--- a word that names a file: it is not empty and does not begin with `--`
-abbrev pub names_a_file : List ℕ → Bool
-names_a_file [] = false
-names_a_file (a ∷ b ∷ word) = not (a == 45 && b == 45)
-names_a_file word = true
 
 -- the command of this word with the names of a specification and a history
 abbrev pub command_on : List ℕ → List ℕ → List ℕ → Option Command

@@ -1,9 +1,11 @@
 //! The words of the command line.
 ghost use Rattle.std.specs.Prelude.{◌≡◌, ◌∷◌, [], IfOk};
-ghost use Rattle.trio_main.specs.Command.{word_bytes, command_of, names_a_file};
+ghost use Rattle.trio_io.specs.Words.{word_bytes};
+ghost use Rattle.trio_main.specs.Command.{command_of};
 
 use std::alloc::Global;
 use trio_base::Name;
+use trio_io::is_file_name;
 
 /// What the words ask for.
 #[derive(Debug, Drop)]
@@ -51,15 +53,4 @@ fn read_three(alloc: Global, word: &str, spec: &str, history: &str) -> Result<Co
         return Ok(Command::Check(spec, history));
     }
     Ok(Command::Complete(spec, history))
-}
-
-/// Whether a word names a file: it is not empty and does not begin with `--`.
-fn is_file_name(word: &str) -> bool
-    ensures { result ≡ names_a_file word.now }
-{
-    match word.as_bytes() {
-        [] => false,
-        [b'-', b'-', ..] => false,
-        _ => true,
-    }
 }

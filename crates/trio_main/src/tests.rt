@@ -6,7 +6,8 @@ ghost use Rattle.trio_io.specs.MemoryShelf.{sure_seen};
 ghost use Rattle.trio_io.specs.MemorySink.{mem_written, mem_faults};
 ghost use Rattle.trio_main.specs.declared.command.Command.{Command};
 ghost use Rattle.trio_main.specs.declared.status.Status.{Status};
-ghost use Rattle.trio_main.specs.Command.{word_bytes, command_of};
+ghost use Rattle.trio_io.specs.Words.{word_bytes};
+ghost use Rattle.trio_main.specs.Command.{command_of};
 ghost use Rattle.trio_main.specs.Due.{Due};
 
 mod complete_rows;

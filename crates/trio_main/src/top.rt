@@ -1,6 +1,7 @@
 //! The top call: words, files and a sink in, a status out.
 ghost use Rattle.std.specs.Prelude.{◌≡◌, ◌≢◌, ◌⊎◌, ℕ, ◌+◌, ◌≤◌, List, None, Some};
-ghost use Rattle.trio_main.specs.Command.{word_bytes, command_of, files_named, saved_name};
+ghost use Rattle.trio_io.specs.Words.{word_bytes};
+ghost use Rattle.trio_main.specs.Command.{command_of, files_named, saved_name};
 ghost use Rattle.trio_main.specs.Message.{usage_line};
 ghost use Rattle.trio_main.specs.Answer.{Said, Ends, Finishes};
 ghost use Rattle.trio_main.specs.Tell.{Tells, GivesDue, Leaves};
