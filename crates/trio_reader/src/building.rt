@@ -11,7 +11,9 @@ use sqlite_items::Boxed;
 use std::alloc::{AllocError, Global};
 use trio_scope::{Binder, Scope};
 use trio_syntax::{ClaimTree, FormulaTree, PartTree, Quantifier, TermShape, TermTree, Written};
-use trio_types::{Axiom, Axioms, Formula, Formulas, List, Rel, SignedTerm, SignedTerms, Term, Terms};
+use trio_types::{
+    Axiom, Axioms, Formula, Formulas, List, Rel, SignedTerm, SignedTerms, Term, Terms,
+};
 
 /// The axioms of a tree, or its goals; only want of memory refuses them.
 pub fn claims_of(alloc: Global, scope: &Scope<'_>, goals: bool) -> Result<Axioms, AllocError>
@@ -58,9 +60,7 @@ fn formula_of<'a>(
     ensures kept { OnOk result (around.new.items ≡ around.old.items) }
 {
     match formula {
-        FormulaTree::Lone(term) => {
-            Ok(Formula::Lone(term_of(alloc, scope, around.as_slice(), term)?))
-        }
+        FormulaTree::Lone(term) => lone_of(alloc, scope, around.as_slice(), term),
         FormulaTree::Compare(rel, _, left, right) => {
             compared_of(alloc, scope, around.as_slice(), *rel, left, right)
         }
@@ -99,6 +99,18 @@ fn formula_of<'a>(
             Ok(Formula::Pair(*op, left, right))
         }
     }
+}
+
+/// A term alone.
+fn lone_of(
+    alloc: Global,
+    scope: &Scope<'_>,
+    around: &[Binder<'_>],
+    term: &TermTree,
+) -> Result<Formula, AllocError>
+    ensures { IfOk result (λ made. made ≡ Formula.Lone (spec.term_of scope.now.tree.now term.now (variables_from around.now))) }
+{
+    Ok(Formula::Lone(term_of(alloc, scope, around, term)?))
 }
 
 /// A comparison of two terms.
