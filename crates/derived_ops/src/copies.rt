@@ -119,14 +119,12 @@ fn copied_formula(alloc: Global, formula: &Formula) -> Result<Formula, AllocErro
             Ok(Formula::Iff(left, right))
         }
         Formula::All(name, domain, body) => {
-            let name = name.copy(alloc)?;
             let body = copied_part(alloc, body.get())?;
-            Ok(Formula::All(name, *domain, body))
+            Ok(Formula::All(name.copy(alloc)?, *domain, body))
         }
         Formula::Ex(name, domain, body) => {
-            let name = name.copy(alloc)?;
             let body = copied_part(alloc, body.get())?;
-            Ok(Formula::Ex(name, *domain, body))
+            Ok(Formula::Ex(name.copy(alloc)?, *domain, body))
         }
         Formula::One(op, part) => Ok(Formula::One(*op, copied_part(alloc, part.get())?)),
         Formula::Far(op, part, distance) => {

@@ -11,7 +11,9 @@ use sqlite_items::Boxed;
 use std::alloc::{AllocError, Global};
 use trio_scope::{Binder, Scope};
 use trio_syntax::{ClaimTree, FormulaTree, PartTree, Quantifier, TermShape, TermTree, Written};
-use trio_types::{Axiom, Axioms, Formula, Formulas, List, SignedTerm, SignedTerms, Term, Terms};
+use trio_types::{
+    Axiom, Axioms, Formula, Formulas, List, Rel, SignedTerm, SignedTerms, Term, Terms,
+};
 
 /// The axioms of a tree, or its goals; only want of memory refuses them.
 pub fn claims_of(alloc: Global, scope: &Scope<'_>, goals: bool) -> Result<Axioms, AllocError>
@@ -58,13 +60,9 @@ fn formula_of<'a>(
     ensures kept { OnOk result (around.new.items ≡ around.old.items) }
 {
     match formula {
-        FormulaTree::Lone(term) => {
-            Ok(Formula::Lone(term_of(alloc, scope, around.as_slice(), term)?))
-        }
+        FormulaTree::Lone(term) => lone_of(alloc, scope, around.as_slice(), term),
         FormulaTree::Compare(rel, _, left, right) => {
-            let left = term_of(alloc, scope, around.as_slice(), left)?;
-            let right = term_of(alloc, scope, around.as_slice(), right)?;
-            Ok(Formula::Compare(*rel, left, right))
+            compared_of(alloc, scope, around.as_slice(), *rel, left, right)
         }
         FormulaTree::Not(part) => Ok(Formula::Not(boxed_of(alloc, scope, around, part.get())?)),
         FormulaTree::And(parts) => {
@@ -101,6 +99,34 @@ fn formula_of<'a>(
             Ok(Formula::Pair(*op, left, right))
         }
     }
+}
+
+/// A term alone.
+fn lone_of(
+    alloc: Global,
+    scope: &Scope<'_>,
+    around: &[Binder<'_>],
+    term: &TermTree,
+) -> Result<Formula, AllocError>
+    ensures { IfOk result (λ made. made ≡ Formula.Lone (spec.term_of scope.now.tree.now term.now (variables_from around.now))) }
+{
+    Ok(Formula::Lone(term_of(alloc, scope, around, term)?))
+}
+
+/// A comparison of two terms.
+fn compared_of(
+    alloc: Global,
+    scope: &Scope<'_>,
+    around: &[Binder<'_>],
+    rel: Rel,
+    left: &TermTree,
+    right: &TermTree,
+) -> Result<Formula, AllocError>
+    ensures { IfOk result (λ made. made ≡ Formula.Compare rel (spec.term_of scope.now.tree.now left.now (variables_from around.now)) (spec.term_of scope.now.tree.now right.now (variables_from around.now))) }
+{
+    let left = term_of(alloc, scope, around, left)?;
+    let right = term_of(alloc, scope, around, right)?;
+    Ok(Formula::Compare(rel, left, right))
 }
 
 #[cycle(building)]

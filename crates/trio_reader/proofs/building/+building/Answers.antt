@@ -3,20 +3,12 @@ use Rattle.std.proofs.Common.{refl}
 use Rattle.trio_reader.proofs.Erased.{formula-Lone, formula-Compare, formula-Not, formula-And, formula-Or, formula-Implies, formula-Iff, formula-Quantified, formula-One, formula-Far, formula-Pair}
 use Rattle.trio_reader.proofs.building.+building.Goals as goal
 
-pub formula_of-returns-in_ok-term_of-in-Lone-clause-made : goal.formula_of-returns-in_ok-term_of-in-Lone-clause-made
-formula_of-returns-in_ok-term_of-in-Lone-clause-made t c =
-    rw (c.in-Lone.is, formula-Lone, c.in_ok-term_of-in-Lone.ensures, c.as_slice.ensures.value) refl
+pub formula_of-returns-in-Lone-clause-made : goal.formula_of-returns-in-Lone-clause-made
+formula_of-returns-in-Lone-clause-made t c = rw (c.in-Lone.is, formula-Lone, ← c.as_slice.ensures.value) c.lone_of.ensures
 
-pub formula_of-returns-in_ok-right-in-Compare-clause-made : goal.formula_of-returns-in_ok-right-in-Compare-clause-made
-formula_of-returns-in_ok-right-in-Compare-clause-made t c =
-    rw (
-      c.in-Compare.is,
-      formula-Compare,
-      c.in_ok-left-in-Compare.ensures,
-      c.in_ok-right-in-Compare.ensures,
-      c.as_slice-in-Compare.ensures.value,
-      c.as_slice-in-Compare-2.ensures.value,
-    ) refl
+pub formula_of-returns-in-Compare-clause-made : goal.formula_of-returns-in-Compare-clause-made
+formula_of-returns-in-Compare-clause-made t c =
+    rw (c.in-Compare.is, formula-Compare, ← c.as_slice-in-Compare.ensures.value) c.compared_of.ensures
 
 pub formula_of-returns-in_ok-boxed_of-in-Not-clause-made : goal.formula_of-returns-in_ok-boxed_of-in-Not-clause-made
 formula_of-returns-in_ok-boxed_of-in-Not-clause-made t c =
