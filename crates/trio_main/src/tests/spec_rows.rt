@@ -115,6 +115,26 @@ fn kinds(rt: HostRuntime) -> Result<(), Fail> {
     check_all(&rt, &KINDS)
 }
 
+/// Sums and products where no number may stand, and items in those of a distance or an argument.
+const KINDS_OF_SUMS: [&str; 11] = [
+    "x + 1 ~ 4 refused spec kind 56\n",
+    "2 * x ~ 4 refused spec kind 56\n",
+    "-x ~ 4 refused spec kind 56\n",
+    "x + 1 = red ~ 4 refused spec kind 59\n",
+    "2 * x = w ~ 4 refused spec kind 59\n",
+    "p = [x - 1] ~ 4 refused spec kind 57\n",
+    "a(1 + 1, 1) = 1 ~ 4 refused spec kind 58\n",
+    "q(2 * x) ~ 4 refused spec kind 60\n",
+    "q(-x) ~ 4 refused spec kind 59\n",
+    "Dist(p, 2 * x) ~ 4 refused spec kind 62\n",
+    "Dist(p, -x) ~ 4 refused spec kind 61\n",
+];
+
+#[test]
+fn kinds_of_sums(rt: HostRuntime) -> Result<(), Fail> {
+    check_formulas(&rt, &KINDS_OF_SUMS)
+}
+
 const KINDS_OF_FORMULAS: [&str; 92] = [
     "p = true ~ 4 refused history missing p\n",
     "p != q(0) ~ 4 refused history missing p\n",
@@ -260,11 +280,12 @@ fn ranges(rt: HostRuntime) -> Result<(), Fail> {
     check_all(&rt, &RANGES)
 }
 
-const LIMITS: [&str; 22] = [
+const LIMITS: [&str; 23] = [
     "time 256; item a : bool; item b : bool; item c : bool; item d : bool; ~  ~ 4 refused history missing a\n",
     "time 205; item a : bool; item b : bool; item c : bool; item d : bool; item e : bool; ~  ~ 4 refused spec limit cells 1025\n",
     "time 1; domain d = 0..63; item a(d) : bool; item b(d, bool) : bool; ~  ~ 4 refused history missing a(0)\n",
     "time 1; domain d = 0..63; item a(d) : d; ~  ~ 4 refused history missing a(0)\n",
+    "time 1; domain d = 0..63; domain e = 0..0; item a(d) : d; item b : e; ~  ~ 4 refused spec limit sizes 4097\n",
     "time 1; domain d = 0..63; item a(d) : d; item b : bool; ~  ~ 4 refused spec limit sizes 4098\n",
     "time 16; domain d = 0..63; item a(d) : d; ~  ~ 4 refused spec limit sizes 65536\n",
     "time 17; domain d = 0..63; item a(d) : d; ~  ~ 4 refused spec limit cells 1088\n",
@@ -332,7 +353,7 @@ fn instance_counts(rt: HostRuntime) -> Result<(), Fail> {
 }
 
 /// Formulas in which the bound of one term, of 1,000,000 times 1,000,001, is above the limit.
-const BOUNDS_ABOVE_THE_LIMIT: [&str; 22] = [
+const BOUNDS_ABOVE_THE_LIMIT: [&str; 27] = [
     "1000000 * [1000000 + 1] = 1",
     "1 = 1000000 * [1000000 + 1]",
     "1000000 * [1 - 1000000] = 1",
@@ -355,6 +376,11 @@ const BOUNDS_ABOVE_THE_LIMIT: [&str; 22] = [
     "Alw(1000000 * [1000000 + 1] = 1)",
     "Dist(1000000 * [1000000 + 1] = 1, 1)",
     "Until(true, 1000000 * [1000000 + 1] = 1)",
+    "Until(1000000 * [1000000 + 1] = 1, true)",
+    "1000000 * [1000000 + 1] = 1 <-> true",
+    "1000000 * [1000000 + 1] = 1 & true",
+    "1000000 * [1000000 + 1] = 1 | true",
+    "all x : d (1000000 * [1000000 + 1] = x)",
 ];
 
 #[test]
@@ -373,11 +399,12 @@ fn bounds_above_the_limit(rt: HostRuntime) -> Result<(), Fail> {
 }
 
 /// Every axiom and goal counts, also one that stands at one instant.
-const COUNTED_CLAIMS: [&str; 4] = [
+const COUNTED_CLAIMS: [&str; 5] = [
     "time 256; axiom A at 0 : Alw(Alw(true)); ~  ~ 4 refused spec limit instances 16843008\n",
     "time 256; goal G at 0 : Alw(Alw(true)); ~  ~ 4 refused spec limit instances 16843008\n",
     "time 256; axiom A : Alw(Alw(true)); goal G : true; ~  ~ 4 refused spec limit instances 16843264\n",
     "time 1; goal G : 1000000 * [1000000 + 1] = 1; ~  ~ 4 refused spec limit bound 1000001000000\n",
+    "time 1; item p : bool; goal G : p & !(p & !(p & !(p & !(p & !(p & !(p & !(p & !(p & !(p & !(p & !(p & !(p & !(p & !(p & !(p & !(p & !(p & !(p & !(p & !(p & !(p & !(p & !(p & !(p & !(p & !(p & !(p & !(p & !(p & !(p & !(p & !(p & !(p & !(p & !(p & !(p & !(p & !(p & !(p & !(p & !(p & !(p & !(p & !(p & !(p & !(p & !(p & !(p & !(p & !(p & !(p))))))))))))))))))))))))))))))))))))))))))))))))))); ~  ~ 4 refused spec limit nest 101\n",
 ];
 
 #[test]
@@ -463,6 +490,26 @@ const OPERATORS: [&str; 40] = [
 #[test]
 fn operators(rt: HostRuntime) -> Result<(), Fail> {
     check_all(&rt, &OPERATORS)
+}
+
+/// Names with the first and the last of the letters and digits, and the bytes beside these.
+const BYTES_OF_NAMES: [&str; 11] = [
+    "time 1; item aAzZ09_ : bool; ~  ~ 4 refused history missing aAzZ09_\n",
+    "time 1; item z : bool; ~  ~ 4 refused history missing z\n",
+    "time 1; item Z : bool; ~  ~ 4 refused history missing Z\n",
+    "time 1; item `p : bool; ~  ~ 4 refused spec lex 13\n",
+    "time 1; item p` : bool; ~  ~ 4 refused spec lex 14\n",
+    "time 1; item p@ : bool; ~  ~ 4 refused spec lex 14\n",
+    "time 1; item p/ : bool; ~  ~ 4 refused spec lex 14\n",
+    "time 1; item p^ : bool; ~  ~ 4 refused spec lex 14\n",
+    "time 1; item p[ : bool; ~  ~ 4 refused spec syntax 5\n",
+    "time 1; item p{ : bool; ~  ~ 4 refused spec syntax 5\n",
+    "time 1; item p:bool; ~  ~ 4 refused history missing p\n",
+];
+
+#[test]
+fn bytes_of_names(rt: HostRuntime) -> Result<(), Fail> {
+    check_all(&rt, &BYTES_OF_NAMES)
 }
 
 const THE_GRAMMAR: [&str; 64] = [
