@@ -261,7 +261,7 @@ const FIRST_TOKENS: [&str; 10] = [
     "q(2 * x) ~ 4 refused spec kind 60\n",
     "q(2 * [x]) ~ 4 refused spec kind 61\n",
     "Dist(p, 2 * x) ~ 4 refused spec kind 62\n",
-    "all y : n (y(1) = 1) ~ 4 refused spec kind 61\n",
+    "all y : n (all z : n (z(1))) ~ 4 refused spec kind 66\n",
     "q < 1 ~ 4 refused spec kind 56\n",
 ];
 
