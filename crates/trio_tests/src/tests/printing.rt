@@ -103,7 +103,10 @@ fn specifications_as_they_are_printed(rt: HostRuntime) -> Result<(), Fail> {
 #[test]
 fn inputs_are_told_from_items(rt: HostRuntime) -> Result<(), Fail> {
     let alloc = rt.alloc();
-    let spec = read_spec(alloc, b"time 1; item p : bool; input q : bool; item r : bool;")?;
+    let spec = read_spec(
+        alloc,
+        b"time 1; item p : bool; input q : bool; item r : bool;",
+    )?;
     let mut inputs = Vec::new(alloc);
     for item in spec.items.as_slice() {
         inputs.push(item.input)?;
