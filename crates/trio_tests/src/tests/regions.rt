@@ -434,12 +434,7 @@ fn start_alone(alloc: Global, region: &Region<'_>) -> Result<Branches, AllocErro
 fn starts_again(rt: &(impl Abort + AllocGlobal), problem: &Problem) -> Result<(), Fail> {
     let Searched { whole, .. } = search(rt.alloc(), problem)?;
     let starts = start_alone(rt.alloc(), &whole)?;
-    let outcome = run(
-        rt.alloc(),
-        whole.problem(),
-        List::new(rt.alloc()),
-        starts,
-    )?;
+    let outcome = run(rt.alloc(), whole.problem(), List::new(rt.alloc()), starts)?;
     are(rt, &outcome.found, MODELS.as_slice());
     Ok(())
 }
