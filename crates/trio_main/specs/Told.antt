@@ -60,7 +60,7 @@ pub record WroteFalse (shelf : ShelfView) (s h : List ℕ) (old new : SinkView) 
   pub spec_file : IsSpecFile shelf s spec
   pub history_file : IsHistoryFile shelf h spec (map Some table)
   pub first : FirstFalse spec table number instant
-  pub written : new.written ≡ old.written ++ codes "false " ++ first.axiom_.name ++ codes " " ++ decimal instant ++ codes "\n"
+  pub written : new.written ≡ old.written ++ (codes "false " ++ first.axiom_.name ++ codes " " ++ decimal instant ++ codes "\n")
 
 -- just the tables that extend the given history and make the specification true were listed, in order and so each once
 pub record WroteList (shelf : ShelfView) (s h : List ℕ) (old new : SinkView) : Type 0 where
