@@ -1,5 +1,5 @@
 -- The answers to the goals of `bells_ring_armed_and_counted`.
-use Rattle.std.proofs.Common.{◌≡◌, ◌↔◌, ℕ, ◌+◌, ◌<◌, ◌≤◌, Bool, true, false, Option, None, refl, arith}
+use Rattle.std.proofs.Common.{◌≡◌, ◌↔◌, ℕ, ◌+◌, ◌<◌, ◌≤◌, Bool, true, false, Option, refl, arith}
 use Rattle.trio_io.specs.Outside.{Asked}
 use Rattle.trio_io.proofs.laws.bells_ring_armed_and_counted.Goals as goal
 
