@@ -75,7 +75,7 @@ pub check_false : CheckFalseLaw
 check_false = λ before now s h old new shelf sink tells.
     let x : TellsFalse before s h old new = tells s h refl in
     let found : first_false x.spec x.fails.table ≡ Some (x.number, x.instant) =
-        false_finds (first_false x.spec x.fails.table) x.number x.instant x.fails.is in
+    false_finds (first_false x.spec x.fails.table) x.number x.instant x.fails.is in
     let first : FirstFalse x.spec x.fails.table x.number x.instant = found_is_first x.spec x.fails.table x.number x.instant found in
     record {
       spec = x.spec;
@@ -220,25 +220,31 @@ load_refused : (shelf : ShelfView) (s h : List ℕ) (n : ℕ) (f : Fault) → sh
     LoadFault shelf s h n f → LoadRefused shelf s h n (message f)
 load_refused shelf s h n f told refused (inl x) = inl (x.0, spec_refused shelf s f told refused x.1)
 load_refused shelf s h n f told refused (inr x) =
-    inr (x.0, record {
-      spec = x.1.spec;
-      spec_file = spec_file shelf s x.1.spec told x.1.first;
-      refused = history_refused (world_of x.1.spec) shelf h f told refused x.1.second;
-    })
+    inr (
+      x.0,
+      record {
+        spec = x.1.spec;
+        spec_file = spec_file shelf s x.1.spec told x.1.first;
+        refused = history_refused (world_of x.1.spec) shelf h f told refused x.1.second;
+      },
+    )
 
 check_fault_refused : FirstUnknownLaw → (shelf : ShelfView) (s h : List ℕ) (n : ℕ) (f : Fault) → shelf.tells ≡ true →
     status_of f ≡ status.Refused → CheckFault shelf s h n f → CheckRefused shelf s h n (message f)
 check_fault_refused law shelf s h n f told refused (inl x) = inl (load_refused shelf s h n f told refused x)
 check_fault_refused law shelf s h n f told refused (inr x) =
-    inr (x.0, record {
-      spec = x.1.spec;
-      given = x.1.given;
-      cell = x.1.unknown.cell;
-      spec_file = spec_file shelf s x.1.spec told x.1.loaded.first;
-      history_file = history_file shelf h x.1.spec x.1.given told x.1.loaded.second;
-      first = (law x.1.given x.1.unknown.cell).0 x.1.unknown.first;
-      named = ap message x.1.unknown.is;
-    })
+    inr (
+      x.0,
+      record {
+        spec = x.1.spec;
+        given = x.1.given;
+        cell = x.1.unknown.cell;
+        spec_file = spec_file shelf s x.1.spec told x.1.loaded.first;
+        history_file = history_file shelf h x.1.spec x.1.given told x.1.loaded.second;
+        first = (law x.1.given x.1.unknown.cell).0 x.1.unknown.first;
+        named = ap message x.1.unknown.is;
+      },
+    )
 
 pub check_refused : FirstUnknownLaw → CheckRefusedLaw
 check_refused law = λ before now s h old new shelf sink tells.
