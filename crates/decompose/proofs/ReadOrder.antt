@@ -20,7 +20,7 @@ use Rattle.trio_core.specs.declared.nodes.Known.{Known}
 use Rattle.trio_core.specs.declared.nodes.Known.TheVariants.{Nothing, Several, One}
 use Rattle.trio_core.specs.CoreShape.{reaches}
 use Rattle.trio_core.specs.Three.{known_both, known_map, known_then, known_all, known_of_cell, known_sum, value3}
-use Rattle.trio_core.proofs.TermCases.{Each, term_of, every_term}
+use Rattle.trio_types.proofs.Inductions.{Each, term_of, every_term}
 use Rattle.trio_core.proofs.TermsAt.{reaches-Read, reaches-Sum, reaches-Times}
 use Rattle.trio_core.proofs.Value3At.{signed_value3, value3-Number, value3-Value, value3-Var, value3-Read, value3-Sum, value3-Times}
 use Rattle.trio_core.proofs.KnownAt.{value_if_known, all_one}

@@ -17,7 +17,7 @@ use Rattle.trio_types.proofs.CellOrder.{at_range, entry_at}
 use Rattle.trio_types.proofs.Lists.{get_within}
 use Rattle.trio_core.specs.Three.{known_at, known_all}
 use Rattle.trio_core.specs.Fits.{NodeTermFits, IsCellRead}
-use Rattle.trio_core.proofs.TermCases.{term_of}
+use Rattle.trio_types.proofs.Inductions.{term_of}
 use Rattle.trio_core.proofs.TermsFit.{arg_values, args_known}
 use Rattle.decompose.specs.Reads.{Reading, is_undecided, cell_number, cells_of_read, reading}
 use Rattle.decompose.proofs.Cutting.{parts_of_zip}

@@ -22,11 +22,10 @@ use Rattle.trio_types.proofs.Lists.{all_is_not_any}
 use Rattle.trio_types.proofs.Operators.{all_pass}
 use Rattle.trio_types.proofs.TruthAt.{truth-Lone, truth-Compare, truth-Not, truth-And, truth-Or, truth-Implies, truth-Iff, truth-All, truth-Ex, truth-One, truth-Far, truth-Pair}
 use Rattle.trio_types.proofs.ValueAt.{value-Value}
-use Rattle.trio_core.proofs.TermCases.{Each}
+use Rattle.trio_types.proofs.Inductions.{Each, every_formula}
 use Rattle.trio_core.specs.Core.{not_truth}
 use Rattle.derived_ops.specs.declared.joint.Way.TheVariants as way
 use Rattle.derived_ops.specs.Rewriting.{Levels, Written, renamed, opposite, range_of_domain, for_some, last, somewhere, at_far, next, until, one_written, far_written, way_of, written}
-use Rattle.derived_ops.proofs.FormulaCases.{every_formula}
 use Rattle.derived_ops.proofs.Told.{shape_truth}
 use Rattle.derived_ops.proofs.Renaming.{pick, Below, renamed_value}
 use Rattle.derived_ops.proofs.Joins.{all_hold, some_holds}

@@ -1,5 +1,4 @@
 -- The lemmas of the crate.
-mod FormulaCases
 mod Told
 mod Renaming
 mod Seeking

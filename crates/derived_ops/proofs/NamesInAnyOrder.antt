@@ -11,8 +11,7 @@ use Rattle.std.proofs.lemmas.Slice.Eq.{bytes_eq-Decides}
 use Rattle.trio_types.specs.declared.formula.Formula.{Formula}
 use Rattle.trio_types.specs.Names.{are_distinct, is_new, variables_are_new}
 use Rattle.trio_types.proofs.NamesAt.{variables_are_new-Lone, variables_are_new-Compare, variables_are_new-Not, variables_are_new-And, variables_are_new-Or, variables_are_new-Implies, variables_are_new-Iff, variables_are_new-All, variables_are_new-Ex, variables_are_new-One, variables_are_new-Far, variables_are_new-Pair}
-use Rattle.trio_core.proofs.TermCases.{Each}
-use Rattle.derived_ops.proofs.FormulaCases.{every_formula}
+use Rattle.trio_types.proofs.Inductions.{Each, every_formula}
 
 -- what no element passes counts none
 none_counted : {X : Type 0} (p : X → Bool) (xs : List X) → list_any p xs ≡ false → count_by p xs ≡ 0

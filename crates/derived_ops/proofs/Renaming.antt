@@ -15,7 +15,7 @@ use Rattle.trio_types.specs.Cells.{number_at}
 use Rattle.trio_types.specs.Values.{value, read_cell, sum_of, plus}
 use Rattle.trio_types.proofs.Lists.{map_same}
 use Rattle.trio_types.proofs.ValueAt.{signed_value, value-Number, value-Value, value-Var, value-Read, value-Sum, value-Times}
-use Rattle.trio_core.proofs.TermCases.{Each, term_of, every_term}
+use Rattle.trio_types.proofs.Inductions.{Each, term_of, every_term}
 use Rattle.derived_ops.specs.declared.joint.Way.{Way}
 use Rattle.derived_ops.specs.declared.joint.Way.TheVariants as way
 use Rattle.derived_ops.specs.Terms.{part_of}

@@ -23,7 +23,7 @@ use Rattle.trio_types.proofs.KindsAt.{gathered-Value, gathered-Var, gathered-Rea
 use Rattle.trio_types.proofs.BoundsAt.{bound_of-Number, bound_of-Value, bound_of-Var, bound_of-Read, bound_of-Sum, bound_of-Times}
 use Rattle.trio_core.specs.Core.{numbers}
 use Rattle.trio_core.specs.CoreShape.{Range, Ranges, reaches, is_item_with, bound_by, range_bound, term_fits}
-use Rattle.trio_core.proofs.TermCases.{Each, term_of, every_term}
+use Rattle.trio_types.proofs.Inductions.{Each, term_of, every_term}
 use Rattle.trio_core.proofs.TermsAt.{reaches-Number, reaches-Value, reaches-Var, reaches-Read, reaches-Sum, reaches-Times, bound_by-Number, bound_by-Value, bound_by-Var, bound_by-Read, bound_by-Sum, bound_by-Times}
 use Rattle.derived_ops.specs.declared.joint.Way.{Way}
 use Rattle.derived_ops.specs.declared.joint.Way.TheVariants as way

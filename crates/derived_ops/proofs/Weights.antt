@@ -12,7 +12,7 @@ use Rattle.trio_types.specs.declared.formula.Formula.TheOpen.{Formula-F}
 use Rattle.trio_types.specs.declared.formula.Formula.TheOpen as open_formula
 use Rattle.trio_types.specs.declared.formula.Formula.TheFolds.{fold-Formula, fold-roll-Formula, map-Formula}
 use Rattle.trio_types.specs.declared.formula.Formula.TheViews.{roll-Formula}
-use Rattle.derived_ops.proofs.FormulaCases.{every_formula}
+use Rattle.trio_types.proofs.Inductions.{every_formula}
 
 abbrev total : List ℕ → ℕ
 total [] = 0

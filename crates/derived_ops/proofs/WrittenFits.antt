@@ -35,7 +35,7 @@ use Rattle.trio_types.proofs.KindsAt.{uses-Lone, uses-Compare, uses-Not, uses-An
 use Rattle.trio_types.proofs.BoundsAt.{greatest_bound-Lone, greatest_bound-Compare, greatest_bound-Not, greatest_bound-And, greatest_bound-Or, greatest_bound-Implies, greatest_bound-Iff, greatest_bound-All, greatest_bound-Ex, greatest_bound-One, greatest_bound-Far, greatest_bound-Pair}
 use Rattle.trio_types.proofs.CountsAt.{nest_of-Lone, nest_of-Compare, nest_of-Not, nest_of-And, nest_of-Or, nest_of-Implies, nest_of-Iff, nest_of-All, nest_of-Ex, nest_of-One, nest_of-Far, nest_of-Pair}
 use Rattle.trio_core.specs.CoreShape.{Range, Ranges, reaches, bound_by, range_bound, term_fits}
-use Rattle.trio_core.proofs.TermCases.{Each}
+use Rattle.trio_types.proofs.Inductions.{Each, every_formula}
 use Rattle.trio_core.proofs.TermsAt.{reaches-Value, bound_by-Value}
 use Rattle.derived_ops.specs.declared.joint.Joint.{Joint}
 use Rattle.derived_ops.specs.declared.joint.Joint.TheVariants as joint
@@ -43,7 +43,6 @@ use Rattle.derived_ops.specs.declared.joint.Way.{Way}
 use Rattle.derived_ops.specs.declared.joint.Way.TheVariants as way
 use Rattle.derived_ops.specs.Shape.{Shape, atom, no, either, equal}
 use Rattle.derived_ops.specs.Rewriting.{Levels, Written, renamed, opposite, joined, of_none, of_two, all_joined, range_of_kind, range_of_domain, for_some, last, somewhere, one_written, dist_written, at_far, least_of, within, throughout, next, far_written, until, way_of, written}
-use Rattle.derived_ops.proofs.FormulaCases.{every_formula}
 use Rattle.derived_ops.proofs.WrittenAt.{written-Lone, written-Compare, written-Not, written-And, written-Or, written-Implies, written-Iff, written-All, written-Ex, written-One, written-Far, written-Pair}
 use Rattle.derived_ops.proofs.Placed.{ShapeFits}
 use Rattle.derived_ops.proofs.TermsPlaced.{Place, place_new, place_own, renamed_fits, number_fits, variable_fits, towards_fits, small_range}

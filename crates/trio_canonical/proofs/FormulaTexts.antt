@@ -32,11 +32,10 @@ use Rattle.trio_syntax.specs.Grammar.{ref, atom, and_of, or_of, arrowed, a_sign}
 use Rattle.trio_print.specs.Pieces.{Piece, blank, lexemes_in}
 use Rattle.trio_print.specs.Canonical.{Printed, FormulaText, formula_text, text_of_formula, own_group, in_group, term_plain, many_text, quantified_text, joined_pieces, in_round, spaced, comma, sign, word_, name_, domain_name}
 use Rattle.trio_print.specs.Canonical.{ref_pieces}
-use Rattle.trio_reader.proofs.FormedCases.{Each}
+use Rattle.trio_types.proofs.Inductions.{Each, FormulaCases, every_formula}
 use Rattle.trio_reader.specs.Erasure.{quantified as quantified_formula}
 use Rattle.trio_canonical.proofs.Told.{Told, told_text, told_map, told_empty, told_one, told_row, told_seq, told_left, told_right, told_both, told_behind, told_before, told_round, told_none, told_many, told_listed, Pairwise, each_map}
 use Rattle.trio_canonical.proofs.Texts.{lexemes-append, lexemes-round, lexemes-joined, text-Lone, text-Compare, text-Not, text-And, text-Or, text-Implies, text-Iff, text-All, text-Ex, text-One, text-Far, text-Pair}
-use Rattle.trio_canonical.proofs.Inductions.{FormulaCases, every_formula}
 use Rattle.trio_canonical.proofs.TermStands.{Stands}
 use Rattle.trio_canonical.proofs.TermTexts.{term_told, each_passing}
 use Rattle.trio_canonical.proofs.FormulaStands.{StandsFor, RefStands, stands_bool, stands_named, stands_lone, stands_compare, stands_not, stands_and, stands_or, stands_implies, stands_iff, stands_quantified, stands_one, stands_far, stands_pair}

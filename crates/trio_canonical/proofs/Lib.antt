@@ -15,7 +15,6 @@ mod SoundKnown
 mod SoundTree
 mod Told
 mod Texts
-mod Inductions
 mod Meant
 mod TermStands
 mod TermTexts

@@ -13,7 +13,8 @@ use Rattle.trio_scope.specs.declared.walk.Role.TheVariants as role
 use Rattle.trio_scope.specs.Gather.{Variable, Finding, places_in, places_in_term, places_in_shape}
 use Rattle.trio_scope.proofs.Gathers.{in-term, in-Number, in-Truth, in-Named, in-Call, in-Sum, in-Times, in-Lone, in-Compare, in-Not, in-And, in-Or, in-Implies, in-Iff, in-Quantified, in-One, in-Far, in-Pair}
 use Rattle.trio_reader.proofs.FormedPhases.{append_empty}
-use Rattle.trio_reader.proofs.FormedCases.{Each, FormulaCases, every_formula, TermCases, every_shape, term_in}
+use Rattle.trio_types.proofs.Inductions.{Each}
+use Rattle.trio_reader.proofs.FormedCases.{FormulaCases, every_formula, TermCases, every_shape, term_in}
 use Rattle.trio_canonical.proofs.SoundPhases.{both_empty}
 
 -- the third rule finds nothing where the first two do not

@@ -28,7 +28,8 @@ use Rattle.trio_scope.proofs.Gathers.{in-Lone, in-Compare, in-Not, in-And, in-Or
 use Rattle.trio_reader.specs.Erasure.{domain_of, domains_of, world_of_tree, parts_of_tree, term_of, formula_of, quantified, item_from, claims_from}
 use Rattle.trio_reader.specs.Kinds.{placed, wrong_places, kind_of, ref_uses, kind_finding, kind_places}
 use Rattle.trio_reader.proofs.Erased.{formula-Lone, formula-Compare, formula-Not, formula-And, formula-Or, formula-Implies, formula-Iff, formula-Quantified, formula-One, formula-Far, formula-Pair}
-use Rattle.trio_reader.proofs.FormedCases.{Each, FormulaCases, every_formula}
+use Rattle.trio_types.proofs.Inductions.{Each}
+use Rattle.trio_reader.proofs.FormedCases.{FormulaCases, every_formula}
 use Rattle.trio_reader.proofs.FormedNumbers.{flat_all, flat_all_of}
 use Rattle.trio_canonical.proofs.SoundPhases.{both_empty, each_empty, all_empty, claims_each}
 use Rattle.trio_canonical.proofs.SoundTerms.{none_wrong, one_placed, no_wrong_kind}

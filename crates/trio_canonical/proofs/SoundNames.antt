@@ -31,7 +31,8 @@ use Rattle.trio_scope.specs.Scope.{is_variable, twice_finding, repeated_places}
 use Rattle.trio_scope.proofs.Gathers.{in-term, in-Number, in-Truth, in-Named, in-Call, in-Sum, in-Times, in-Lone, in-Compare, in-Not, in-And, in-Or, in-Implies, in-Iff, in-Quantified, in-One, in-Far, in-Pair}
 use Rattle.trio_reader.specs.Erasure.{values_kind, domain_from, item_from, axiom_from, is_wanted, claims_from, term_of, formula_of, domain_of, parts_of_tree}
 use Rattle.trio_reader.proofs.Erased.{formula-Not, formula-And, formula-Or, formula-Implies, formula-Iff, formula-Quantified, formula-One, formula-Far, formula-Pair}
-use Rattle.trio_reader.proofs.FormedCases.{Each, FormulaCases, every_formula, TermCases, every_shape, term_in}
+use Rattle.trio_types.proofs.Inductions.{Each}
+use Rattle.trio_reader.proofs.FormedCases.{FormulaCases, every_formula, TermCases, every_shape, term_in}
 use Rattle.trio_reader.proofs.FormedVariables.{quantified_new}
 use Rattle.trio_reader.proofs.FormedNames.{same_names, same_declared, names_of, words_names, any_named}
 use Rattle.trio_canonical.proofs.SoundPhases.{both_empty, passes, each_empty, all_empty, claims_each}

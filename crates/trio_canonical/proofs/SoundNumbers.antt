@@ -23,7 +23,8 @@ use Rattle.trio_scope.proofs.Gathers.{in-term, in-Number, in-Truth, in-Named, in
 use Rattle.trio_reader.specs.Erasure.{shape_of, term_of, part_from, formula_of, domain_of, parts_of_tree}
 use Rattle.trio_reader.specs.Ranges.{if_large, own_numbers, range_finding}
 use Rattle.trio_reader.proofs.Erased.{term-shape, shape-Number, shape-Call, shape-Sum, shape-Times, formula-Lone, formula-Compare, formula-Not, formula-And, formula-Or, formula-Implies, formula-Iff, formula-Quantified, formula-One, formula-Far, formula-Pair}
-use Rattle.trio_reader.proofs.FormedCases.{Each, FormulaCases, every_formula, TermCases, every_shape, term_in}
+use Rattle.trio_types.proofs.Inductions.{Each}
+use Rattle.trio_reader.proofs.FormedCases.{FormulaCases, every_formula, TermCases, every_shape, term_in}
 use Rattle.trio_reader.proofs.FormedNumbers.{flat_all, flat_all_of, quantified_numbers, part_numbers}
 use Rattle.trio_canonical.proofs.SoundPhases.{both_empty, passes, each_empty, all_empty, claims_each}
 

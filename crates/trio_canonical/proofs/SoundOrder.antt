@@ -15,7 +15,7 @@ use Rattle.trio_syntax.specs.Forms.{either, Many, none, more, Under}
 use Rattle.trio_syntax.specs.Grammar.{rows_within, domain, item, claim, IsSpec}
 use Rattle.trio_scope.specs.Gather.{places_in_claims}
 use Rattle.trio_scope.specs.Scope.{names_of_ref, refs_of}
-use Rattle.trio_reader.proofs.FormedCases.{Each}
+use Rattle.trio_types.proofs.Inductions.{Each}
 use Rattle.trio_canonical.proofs.SoundPhases.{both_empty}
 use Rattle.trio_canonical.proofs.SoundNames.{in_order}
 use Rattle.trio_canonical.proofs.SoundPlaces.{early, early_finding, names_declared, all_before, Stated, statements_stated, claims_late}

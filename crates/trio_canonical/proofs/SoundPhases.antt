@@ -17,7 +17,7 @@ use Rattle.trio_scope.specs.Places.{unless}
 use Rattle.trio_reader.specs.Erasure.{is_wanted, axiom_from, claims_from}
 use Rattle.trio_reader.specs.Reading.{tree_fault}
 use Rattle.trio_reader.proofs.FormedPhases.{IsClean}
-use Rattle.trio_reader.proofs.FormedCases.{Each}
+use Rattle.trio_types.proofs.Inductions.{Each}
 
 -- the tree has no fault where no phase finds one
 pub sound_from : (tree : SpecTree) → IsClean tree → tree_fault tree ≡ None

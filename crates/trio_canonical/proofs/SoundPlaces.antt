@@ -33,7 +33,7 @@ use Rattle.trio_scope.specs.Gather.{Variable, Finding, places_in, places_in_term
 use Rattle.trio_scope.specs.Scope.{own_names, names_at, names_of_ref, refs_of}
 use Rattle.trio_scope.proofs.Gathers.{in-term, in-Number, in-Truth, in-Named, in-Call, in-Sum, in-Times, in-Lone, in-Compare, in-Not, in-And, in-Or, in-Implies, in-Iff, in-Quantified, in-One, in-Far, in-Pair}
 use Rattle.trio_reader.proofs.FormedPhases.{append_empty}
-use Rattle.trio_reader.proofs.FormedCases.{Each}
+use Rattle.trio_types.proofs.Inductions.{Each}
 use Rattle.trio_canonical.proofs.SoundPhases.{both_empty, passes}
 
 -- the names that stand before a token

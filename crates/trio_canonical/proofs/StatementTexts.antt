@@ -35,7 +35,7 @@ use Rattle.trio_syntax.specs.Words.{item_word, claim_word}
 use Rattle.trio_syntax.specs.Grammar.{a_name, ref, refs, int, domain_values, domain, item, instant, claim, spec}
 use Rattle.trio_syntax.specs.Forms.{either}
 use Rattle.trio_reader.specs.Erasure.{integer_of, values_kind, domain_from, item_from, domain_of}
-use Rattle.trio_reader.proofs.FormedCases.{Each}
+use Rattle.trio_types.proofs.Inductions.{Each}
 use Rattle.trio_print.specs.Pieces.{Piece, line_end, lexemes_in}
 use Rattle.trio_print.specs.Canonical.{sign, name_, spaced, joined_pieces, comma, listed_pieces, integer, ended, values_pieces, domain_text, item_text, at_text, claim_text, spec_pieces, text_of_formula}
 use Rattle.trio_print.specs.Canonical.{ref_pieces}

@@ -26,10 +26,9 @@ use Rattle.trio_syntax.specs.Forms.{Form, seq, row, adding, term, summand, facto
 use Rattle.trio_syntax.specs.Grammar.{a, signed, arguments}
 use Rattle.trio_print.specs.Pieces.{Piece, lexemes_in}
 use Rattle.trio_print.specs.Canonical.{Printed, TermText, term_text, text_of_term, same_text, sign, word_, name_, read_text, listed_pieces, comma, joined_pieces, in_square, sum_text, product_text, later_part, item_name, word_name, constant}
-use Rattle.trio_reader.proofs.FormedCases.{Each}
+use Rattle.trio_types.proofs.Inductions.{Each, TermCases, every_term}
 use Rattle.trio_canonical.proofs.Told.{Told, told_text, told_empty, told_one, told_row, told_seq, told_left, told_right, told_both, told_before, told_none, told_many, told_listed, Pairwise, each_map}
 use Rattle.trio_canonical.proofs.Texts.{lexemes-append, lexemes-round, lexemes-square, lexemes-flat_map, lexemes-joined, text_of_part, text-Number, text-Value, text-Var, text-Read, text-Sum, text-Times}
-use Rattle.trio_canonical.proofs.Inductions.{TermCases, every_term}
 use Rattle.trio_canonical.proofs.TermStands.{Stands, stands_shape, stands_number, stands_times, stands_truth, stands_word, stands_variable, stands_read, stands_sum, ArgumentsStand, PartStands}
 
 -- a summand is a term

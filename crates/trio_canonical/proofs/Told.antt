@@ -9,7 +9,7 @@ use Rattle.trio_text.specs.declared.token.Symbol.TheVariants as signs
 use Rattle.trio_syntax.specs.Forms.{Sort, SortValue, token_of, Nonterminal, Tree, Form, empty, one, row, seq, either, many}
 use Rattle.trio_syntax.specs.Grammar.{production, behind_sign, before_sign, round, both, listed, Derives}
 use Rattle.trio_syntax.proofs.Says.{says_empty, says_one, says_row, says_seq, says_left, says_right, says_none, says_more}
-use Rattle.trio_reader.proofs.FormedCases.{Each}
+use Rattle.trio_types.proofs.Inductions.{Each}
 
 -- at this place
 pub record Tells {A : Type 0} (g : Form A) (P : A → Type 0) (text : List Lexeme) (p : ℕ) : Type 0 where

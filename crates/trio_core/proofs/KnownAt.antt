@@ -13,7 +13,7 @@ use Rattle.trio_core.specs.declared.nodes.Known.{Known}
 use Rattle.trio_core.specs.declared.nodes.Known.TheVariants.{Nothing, Several, One}
 use Rattle.trio_core.specs.Sets.{members}
 use Rattle.trio_core.specs.Three.{known_both, known_map, known_then, known_all, known_of_option, known_of_members, known_of_set, known_at, known_of_cell, known_sum}
-use Rattle.trio_core.proofs.TermCases.{Each}
+use Rattle.trio_types.proofs.Inductions.{Each}
 
 pub same_One : {X : Type 0} (x y : X) → One x ≡ One y → x ≡ y
 same_One x y e = cc

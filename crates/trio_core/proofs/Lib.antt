@@ -1,5 +1,4 @@
 -- The lemmas of the crate.
-pub mod TermCases
 pub mod TermsAt
 pub mod Flat
 pub mod Ranges

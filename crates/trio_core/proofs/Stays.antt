@@ -12,7 +12,7 @@ use Rattle.trio_core.specs.declared.nodes.Three.TheVariants as three
 use Rattle.trio_core.specs.declared.nodes.Known.{Known}
 use Rattle.trio_core.specs.declared.nodes.Known.TheVariants.{Nothing, Several, One}
 use Rattle.trio_core.specs.Three.{known_both, known_map, known_then, known_all, known_of_cell, known_sum, value3, sure, not3, and3, or3, all3, any3, three_of_known, relates3, at_distance3}
-use Rattle.trio_core.proofs.TermCases.{Each, term_of, every_term}
+use Rattle.trio_types.proofs.Inductions.{Each, term_of, every_term}
 use Rattle.trio_core.proofs.Value3At.{signed_value3, value3-Number, value3-Value, value3-Var, value3-Read, value3-Sum, value3-Times}
 
 -- that there is none stays known, and which value it is

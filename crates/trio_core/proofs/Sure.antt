@@ -17,7 +17,7 @@ use Rattle.trio_core.specs.declared.nodes.Three.{Three}
 use Rattle.trio_core.specs.declared.nodes.Known.{Known}
 use Rattle.trio_core.specs.declared.nodes.Known.TheVariants.{Nothing, One}
 use Rattle.trio_core.specs.Three.{known_both, known_map, known_then, known_of_option, known_all, known_of_cell, known_sum, value3, sure, not3, and3, or3, all3, any3, relates3, at_distance3}
-use Rattle.trio_core.proofs.TermCases.{Each, term_of, every_term}
+use Rattle.trio_types.proofs.Inductions.{Each, term_of, every_term}
 use Rattle.trio_core.proofs.Value3At.{signed_value3, value3-Number, value3-Value, value3-Var, value3-Read, value3-Sum, value3-Times}
 
 -- what is known of cells is their value in the table

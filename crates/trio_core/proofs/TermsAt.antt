@@ -15,7 +15,7 @@ use Rattle.trio_types.specs.Kinds.{has_kind, kind_of_constant}
 use Rattle.trio_types.specs.Bounds.{Bound, bounded, most_of, domain_bound, item_bound, term_bound, part_bound}
 use Rattle.trio_types.proofs.Lists.{map_same}
 use Rattle.trio_core.specs.CoreShape.{Reach, reaches, term_reach, part_reach, is_item_with, bound_by, term_bound_by}
-use Rattle.trio_core.proofs.TermCases.{term_of}
+use Rattle.trio_types.proofs.Inductions.{term_of}
 
 abbrev part_reaches : World → SignedTerm → Reach
 part_reaches w = fold-SignedTerm Reach Reach (term_reach w) part_reach

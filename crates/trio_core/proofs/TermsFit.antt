@@ -29,7 +29,7 @@ use Rattle.trio_core.specs.CoreShape.{Range, Ranges, range_bound, reaches, bound
 use Rattle.trio_core.specs.Three.{known_then, known_all, known_of_cell, known_sum, known_map, known_at, value3}
 use Rattle.trio_core.specs.Stands.{lie_in}
 use Rattle.trio_core.specs.Fits.{NodeTermFits, IsKnownNear}
-use Rattle.trio_core.proofs.TermCases.{Each, term_of, every_term}
+use Rattle.trio_types.proofs.Inductions.{Each, term_of, every_term}
 use Rattle.trio_core.proofs.TermsAt.{reaches-Value, reaches-Var, reaches-Read, reaches-Sum, reaches-Times, bound_by-Number, bound_by-Value, bound_by-Var, bound_by-Read, bound_by-Sum, bound_by-Times}
 use Rattle.trio_core.proofs.Value3At.{signed_value3, value3-Number, value3-Value, value3-Var, value3-Read, value3-Sum, value3-Times}
 use Rattle.trio_core.proofs.KnownAt.{same_One, map_one, then_one, read_one, known_at_one, signed_one, sum_small, each_one, value_if_known, all_one}

@@ -1,22 +1,47 @@
 //! What is said of texts, with the line and the column that a person points at, over shelves and sinks in memory.
+mod classes;
+mod excerpts;
+mod outside;
+mod whole;
+
 use super::*;
 use std::alloc::{AllocError, Global};
 use std::process::Abort;
 use std::test::Fail;
-use trio_io::{Counts, Files, MemShelf, MemSink};
+use trio_io::{Counts, Files, MemShelf, MemSink, Shelf};
+
+/// The words of a line, split at blanks; `_` stands for an empty word.
+fn words_in(alloc: Global, line: &str) -> Result<Vec<String>, AllocError> {
+    let mut words = Vec::new(alloc);
+    for word in line.split_whitespace() {
+        words.push(String::from_str(alloc, if word == "_" { "" } else { word })?)?;
+    }
+    Ok(words)
+}
+
+/// What is said of a line of words over this shelf into this sink, behind the status.
+fn told<F: Shelf>(
+    alloc: Global,
+    line: &str,
+    shelf: &mut F,
+    mut out: MemSink,
+) -> Result<Vec<u8>, AllocError> {
+    let words = words_in(alloc, line)?;
+    let status = explained(alloc, words.as_slice(), shelf, &mut out).number();
+    let mut text = format!(in alloc; "{status} ")?.into_bytes();
+    text.extend_from_slice(out.written())?;
+    Ok(text)
+}
+
+/// A sink with ample room.
+fn ample(alloc: Global) -> Result<MemSink, AllocError> {
+    MemSink::new(alloc, 65536, 65536, Counts::new(alloc))
+}
 
 /// What is said of a line of words over these files, behind the status.
 fn answered(alloc: Global, line: &str, files: Files) -> Result<Vec<u8>, AllocError> {
     let mut shelf = MemShelf::new(alloc, files, Counts::new(alloc))?;
-    let mut out = MemSink::new(alloc, 65536, 65536, Counts::new(alloc))?;
-    let mut words = Vec::new(alloc);
-    for word in line.split_whitespace() {
-        words.push(String::from_str(alloc, word)?)?;
-    }
-    let status = explained(alloc, words.as_slice(), &mut shelf, &mut out).number();
-    let mut text = format!(in alloc; "{status} ")?.into_bytes();
-    text.extend_from_slice(out.written())?;
-    Ok(text)
+    told(alloc, line, &mut shelf, ample(alloc)?)
 }
 
 /// What is said of a specification in the file `s` and a history in the file `h`, behind the status.

@@ -1,6 +1,6 @@
 //! What the words of the contracts mean, in plain words.
-ghost use Rattle.std.specs.Prelude.{◌≡◌, ◌↔◌, ℕ, ◌<◌, ◌-◌, ◌^◌, ◌++◌, List, Option, Some, length, true};
-ghost use Rattle.trio_io.specs.Outside.{Rose, ShelfView, Holds, IsLonger, SinkView, Writes, WritesFront};
+ghost use Rattle.std.specs.Prelude.{◌≡◌, ◌≢◌, ◌↔◌, ℕ, ◌+◌, ◌<◌, ◌≤◌, ◌-◌, ◌^◌, ◌++◌, Bool, List, Option, None, Some, length, true};
+ghost use Rattle.trio_io.specs.Outside.{Rose, ShelfView, Holds, IsLonger, SinkView, Writes, WritesFront, WritesPart, Asked};
 
 /// A count that rose is greater than before, but for one that stood at the last value of its 64 bits.
 pub fn count_that_rose_is_greater()
@@ -20,6 +20,21 @@ pub fn written_bytes_stand_behind()
 /// A sink that tells has what it had, and behind it the bytes up to a rest.
 pub fn written_front_stands_behind()
     ensures { (before now : SinkView) (bytes : List ℕ) → before.tells ≡ true → (part : WritesFront before now bytes) → now.written ++ part.rest ≡ before.written ++ bytes }
+{}
+
+/// After a write that failed, the count of faults rose, and what a sink that tells has is not all of the bytes behind what it had.
+pub fn failed_write_is_not_whole()
+    ensures counted { (before now : SinkView) (bytes : List ℕ) → WritesPart before now bytes → Rose before.faults now.faults }
+    ensures unfinished { (before now : SinkView) (bytes : List ℕ) → before.tells ≡ true → WritesPart before now bytes → now.written ≢ before.written ++ bytes }
+{}
+
+/// A bell that is not armed does not ring. The count of rings rises just where it rings, and that of quiet asks by one at most.
+pub fn bells_ring_armed_and_counted()
+    ensures armed { (rings rung quiet stilled : ℕ) → Asked true None rings rung quiet stilled → ⊥ }
+    ensures counted { (answer : Bool) (armed : Option ℕ) (rings rung quiet stilled : ℕ) → Asked answer armed rings rung quiet stilled
+        → (rings ≤ rung) × ((answer ≡ true) ↔ (rings < rung)) }
+    ensures quiet { (answer : Bool) (armed : Option ℕ) (rings rung quiet stilled : ℕ) → Asked answer armed rings rung quiet stilled
+        → (quiet ≤ stilled) × (stilled ≤ quiet + 1) }
 {}
 
 /// Where a shelf tells its files, what is said to stand under a name does, and a file that is said to be longer is.

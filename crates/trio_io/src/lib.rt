@@ -18,8 +18,9 @@ pub use bell::{Bell, StillBell};
 pub use file_shelf::FileShelf;
 pub use files::{Counts, Files};
 pub use laws::{
-    count_that_rose_is_greater, greater_count_rose, told_files_are_the_files,
-    written_bytes_stand_behind, written_front_stands_behind,
+    bells_ring_armed_and_counted, count_that_rose_is_greater, failed_write_is_not_whole,
+    greater_count_rose, told_files_are_the_files, written_bytes_stand_behind,
+    written_front_stands_behind,
 };
 pub use memory_shelf::MemShelf;
 pub use memory_sink::MemSink;

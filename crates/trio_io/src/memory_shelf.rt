@@ -13,10 +13,10 @@ use std::alloc::{AllocError, Global};
 pub struct MemShelf {
     files: Files,
     failing: Counts,
-    absences: u64,
-    failed_fetches: u64,
-    failed_puts: u64,
-    calls: u64,
+    pub(crate) absences: u64,
+    pub(crate) failed_fetches: u64,
+    pub(crate) failed_puts: u64,
+    pub(crate) calls: u64,
 }
 
 impl MemShelf {

@@ -12,7 +12,7 @@ use std::alloc::{AllocError, Global};
 #[derive(Drop)]
 pub struct SureShelf {
     files: Files,
-    absences: u64,
+    pub(crate) absences: u64,
 }
 
 impl SureShelf {

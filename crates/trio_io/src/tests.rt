@@ -85,6 +85,34 @@ fn memory_shelf_puts(rt: HostRuntime) -> Result<(), Fail> {
     )
 }
 
+/// The counts of a shelf: absences, failed fetches, failed puts and calls.
+fn counted(shelf: &MemShelf) -> (u64, u64, u64, u64) {
+    (
+        shelf.absences,
+        shelf.failed_fetches,
+        shelf.failed_puts,
+        shelf.calls,
+    )
+}
+
+#[test]
+fn memory_shelf_counts(rt: HostRuntime) -> Result<(), Fail> {
+    let mut shelf = shelf_of_two(rt.alloc(), &[3, 5])?;
+    let failed = Err(ShelfFault::Failed);
+    file_row(&rt, &mut shelf, "a", 3, Ok(()), b">abc")?;
+    file_row(&rt, &mut shelf, "a", 2, Err(ShelfFault::TooLong), b">")?;
+    assert_eq!(rt; counted(&shelf), (0, 0, 0, 2));
+    file_row(&rt, &mut shelf, "a", 3, failed, b">")?;
+    assert_eq!(rt; counted(&shelf), (0, 1, 0, 3));
+    file_row(&rt, &mut shelf, "c", 3, failed, b">")?;
+    assert_eq!(rt; counted(&shelf), (1, 1, 0, 4));
+    assert_eq!(rt; shelf.put("a", b"new"), failed);
+    assert_eq!(rt; counted(&shelf), (1, 1, 1, 5));
+    assert_eq!(rt; shelf.put("c", b"new"), Ok(()));
+    assert_eq!(rt; counted(&shelf), (1, 1, 1, 6));
+    Ok(())
+}
+
 fn sink_row(
     rt: &(impl Abort + AllocGlobal),
     room: u64,
@@ -149,7 +177,9 @@ fn sure_shelf_fetches_and_puts(rt: HostRuntime) -> Result<(), Fail> {
     file_row(&rt, &mut shelf, "a", 2, Err(ShelfFault::TooLong), b">")?;
     file_row(&rt, &mut shelf, "b", 3, Err(ShelfFault::Failed), b">")?;
     assert_eq!(rt; shelf.put("b", b"d"), Ok(()));
-    file_row(&rt, &mut shelf, "b", 3, Ok(()), b">d")
+    file_row(&rt, &mut shelf, "b", 3, Ok(()), b">d")?;
+    assert_eq!(rt; shelf.absences, 1);
+    Ok(())
 }
 
 #[test]

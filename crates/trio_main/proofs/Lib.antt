@@ -11,4 +11,5 @@ pub mod ListPieces
 pub mod Loaded
 pub mod Pieces
 pub mod Tellings
+mod Told
 pub mod Yielded

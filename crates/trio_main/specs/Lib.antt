@@ -13,3 +13,4 @@ pub mod Row
 pub mod Status
 pub mod Tell
 pub mod Text
+pub mod Told

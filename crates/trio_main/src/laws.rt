@@ -1,8 +1,37 @@
-//! The law of completions, as the contract of a function that does nothing.
+//! The law of completions, and what each status tells in words, as the contracts of functions that do nothing.
 ghost use Rattle.trio_main.specs.Laws.{CompletionsLaw, CompletionsOrder};
+ghost use Rattle.trio_main.specs.Told.{CheckTrueLaw, CheckFalseLaw, CheckRefusedLaw, CompleteLaw, CompleteRefusedLaw, NeverFalseLaw, UsageLaw, UnreadLaw, UnwrittenLaw, MemoryLaw};
+
+use history_table::given_values_stay_and_gaps_are_found;
 
 /// The completions of a given history are the tables that extend it and make the specification true. They are in order, each once.
 pub fn completions_are_the_true_extensions()
     ensures all { CompletionsLaw }
     ensures once { CompletionsOrder }
+{}
+
+/// Status 0 of `check` tells that every axiom is true throughout the history, status 1 which is the first that is false and where, and status 4
+/// the first fault of the files, or the first cell whose value is not known; each with what was written.
+pub fn check_tells_the_truth()
+    ensures done { CheckTrueLaw }
+    ensures fails { CheckFalseLaw }
+    ensures refused { CheckRefusedLaw }
+{
+    given_values_stay_and_gaps_are_found();
+}
+
+/// Status 0 of `complete` tells that just the true extensions of the given history were listed, in order; status 1 never comes, and status 4 tells
+/// the first fault of the files.
+pub fn complete_lists_the_true_extensions()
+    ensures done { CompleteLaw }
+    ensures never { NeverFalseLaw }
+    ensures refused { CompleteRefusedLaw }
+{}
+
+/// The statuses 2, 5, 6 and 7 of any command tell their causes, and what was written.
+pub fn statuses_tell_their_causes()
+    ensures usage { UsageLaw }
+    ensures unread { UnreadLaw }
+    ensures unwritten { UnwrittenLaw }
+    ensures memory { MemoryLaw }
 {}

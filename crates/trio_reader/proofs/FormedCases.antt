@@ -25,12 +25,8 @@ use Rattle.trio_syntax.specs.declared.tree.FormulaTree.TheOpen as open_formula
 use Rattle.trio_syntax.specs.declared.tree.FormulaTree.TheFolds.{map-FormulaTree, ind-FormulaTree, claims}
 use Rattle.trio_syntax.specs.declared.tree.FormulaTree.TheBlock.{the_family, member-FormulaTree}
 use Rattle.trio_syntax.specs.declared.tree.FormulaTree.TheViews.{roll-FormulaTree}
+use Rattle.trio_types.proofs.Inductions.{Each}
 use Rattle.trio_reader.proofs.FormedPhases.{append_empty}
-
--- a fact holds of each element
-abbrev pub Each : {X : Type 0} → (X → Type 0) → List X → Type 0
-Each P [] = Unit {0}
-Each P (x ∷ xs) = P x × Each P xs
 
 -- each element passes the one test, since it passes the other
 pub each_passes : {X : Type 0} (P : X → Type 0) (p q : X → Bool) → ((x : X) → P x → p x ≡ true → q x ≡ true) → (xs : List X) → Each P xs →

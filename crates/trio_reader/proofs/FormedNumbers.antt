@@ -33,7 +33,8 @@ use Rattle.trio_reader.specs.Ranges.{if_large, own_numbers, range_finding, out_o
 use Rattle.trio_reader.proofs.Erased.{term-shape, shape-Number, shape-Truth, shape-Named, shape-Call, shape-Sum, shape-Times, formula-Lone, formula-Compare, formula-Not, formula-And, formula-Or, formula-Implies, formula-Iff, formula-Quantified, formula-One, formula-Far, formula-Pair}
 use Rattle.trio_reader.proofs.FormedPhases.{append_empty, unless_empty}
 use Rattle.trio_reader.proofs.FormedDomains.{in_range}
-use Rattle.trio_reader.proofs.FormedCases.{Each, each_clean, FormulaCases, every_formula, TermCases, every_shape, term_in}
+use Rattle.trio_types.proofs.Inductions.{Each}
+use Rattle.trio_reader.proofs.FormedCases.{each_clean, FormulaCases, every_formula, TermCases, every_shape, term_in}
 use Rattle.trio_reader.proofs.FormedClaims.{claims_pass}
 
 -- each element of joined lists passes

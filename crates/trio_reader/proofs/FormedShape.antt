@@ -34,7 +34,8 @@ use Rattle.trio_reader.specs.declared.sense.Sense.{Sense}
 use Rattle.trio_reader.specs.declared.sense.Sense.TheVariants as sense
 use Rattle.trio_reader.specs.Erasure.{shape_of, term_of, part_from, sense_of, sense_term, formula_of, quantified, domain_of, parts_of_tree}
 use Rattle.trio_reader.proofs.Erased.{map-map, term-shape, shape-Number, shape-Truth, shape-Named, shape-Call, shape-Sum, shape-Times, formula-Lone, formula-Compare, formula-Not, formula-And, formula-Or, formula-Implies, formula-Iff, formula-Quantified, formula-One, formula-Far, formula-Pair}
-use Rattle.trio_reader.proofs.FormedCases.{Each, each_passes, FormulaCases, every_formula, TermCases, every_shape, term_in}
+use Rattle.trio_types.proofs.Inductions.{Each}
+use Rattle.trio_reader.proofs.FormedCases.{each_passes, FormulaCases, every_formula, TermCases, every_shape, term_in}
 use Rattle.trio_reader.proofs.FormedNumbers.{flat_all_of}
 use Rattle.trio_reader.proofs.FormedClaims.{claims_pass}
 

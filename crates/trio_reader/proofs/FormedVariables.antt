@@ -23,7 +23,8 @@ use Rattle.trio_scope.proofs.Gathers.{in-Not, in-And, in-Or, in-Implies, in-Iff,
 use Rattle.trio_reader.specs.Erasure.{term_of, formula_of, quantified, domain_of, parts_of_tree}
 use Rattle.trio_reader.proofs.Erased.{formula-Lone, formula-Compare, formula-Not, formula-And, formula-Or, formula-Implies, formula-Iff, formula-Quantified, formula-One, formula-Far, formula-Pair}
 use Rattle.trio_reader.proofs.FormedPhases.{append_empty, unless_empty}
-use Rattle.trio_reader.proofs.FormedCases.{Each, each_clean, FormulaCases, every_formula}
+use Rattle.trio_types.proofs.Inductions.{Each}
+use Rattle.trio_reader.proofs.FormedCases.{each_clean, FormulaCases, every_formula}
 use Rattle.trio_reader.proofs.FormedClaims.{claims_pass}
 use Rattle.trio_reader.proofs.FormedNames.{is_once, same_names, same_declared}
 

@@ -1,22 +1,23 @@
 -- The lemmas of the crate.
+mod Formed
+pub mod Atoms
+pub mod Bounded
+pub mod BoundsAt
+pub mod CellNumbers
+pub mod CellOrder
+pub mod Contained
+pub mod CountsAt
+pub mod Declared
+pub mod Domains
+pub mod Inductions
+pub mod Integers
+pub mod KindsAt
 pub mod Lists
+pub mod NamesAt
+pub mod Operators
+pub mod Reading
+pub mod ShapeAt
+pub mod Specs
 pub mod TruthAt
 pub mod ValueAt
-pub mod KindsAt
-pub mod BoundsAt
-pub mod CountsAt
-pub mod ShapeAt
-pub mod NamesAt
-pub mod Integers
-pub mod Domains
-pub mod Specs
-pub mod Declared
-pub mod CellNumbers
-pub mod Operators
-pub mod CellOrder
-pub mod Atoms
 pub mod Verdicts
-pub mod Reading
-pub mod Bounded
-pub mod Contained
-mod Formed

@@ -58,6 +58,21 @@ fn brackets_in_brackets(rt: HostRuntime) -> Result<(), Fail> {
     check_brackets(&rt, 101, 0, "4 refused spec deep 106")
 }
 
+/// More than 100 brackets in a text of which each is closed, a closing one where none is open, and braces, which do not count.
+#[test]
+fn brackets_that_are_open(rt: HostRuntime) -> Result<(), Fail> {
+    let alloc = rt.alloc();
+    let pairs = "(true) & [true] & ".repeat(alloc, 101)?;
+    let text = format!(in alloc; "time 1; axiom A : {pairs}true;")?;
+    answer_is(&rt, text.as_str(), "0 true")?;
+    let round = "(".repeat(alloc, 101)?;
+    let text = format!(in alloc; "time 1; axiom A : ){round}")?;
+    answer_is(&rt, text.as_str(), "4 refused spec deep 107")?;
+    let braces = "{".repeat(alloc, 101)?;
+    let text = format!(in alloc; "time 1; domain d = {braces}")?;
+    answer_is(&rt, text.as_str(), "4 refused spec syntax 7")
+}
+
 #[test]
 fn instances_at_their_limit(rt: HostRuntime) -> Result<(), Fail> {
     let alloc = rt.alloc();

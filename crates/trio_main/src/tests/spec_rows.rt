@@ -48,6 +48,31 @@ const NAMES_USED_BEFORE_THEY_ARE_DECLARED_OF_FORMULAS: [&str; 3] = [
     "p & Until(p, r) ~ 4 refused spec unknown 62\n",
 ];
 
+/// A name that is not declared, in each form of formula and of term.
+const UNKNOWN_NAMES_IN_EACH_FORM: [&str; 16] = [
+    "!r ~ 4 refused spec unknown 57\n",
+    "r | p ~ 4 refused spec unknown 56\n",
+    "p | r ~ 4 refused spec unknown 58\n",
+    "r -> p ~ 4 refused spec unknown 56\n",
+    "p -> r ~ 4 refused spec unknown 58\n",
+    "r <-> p ~ 4 refused spec unknown 56\n",
+    "p <-> r ~ 4 refused spec unknown 58\n",
+    "Alw(r) ~ 4 refused spec unknown 58\n",
+    "Dist(r, 1) ~ 4 refused spec unknown 58\n",
+    "Since(r, p) ~ 4 refused spec unknown 58\n",
+    "all y : n (r) ~ 4 refused spec unknown 61\n",
+    "r = p ~ 4 refused spec unknown 56\n",
+    "p = r ~ 4 refused spec unknown 58\n",
+    "x - r = 1 ~ 4 refused spec unknown 58\n",
+    "2 * r = 1 ~ 4 refused spec unknown 58\n",
+    "a(red, r) = 1 ~ 4 refused spec unknown 60\n",
+];
+
+#[test]
+fn unknown_names_in_each_form(rt: HostRuntime) -> Result<(), Fail> {
+    check_formulas(&rt, &UNKNOWN_NAMES_IN_EACH_FORM)
+}
+
 #[test]
 fn names_used_before_they_are_declared_of_formulas(rt: HostRuntime) -> Result<(), Fail> {
     check_formulas(&rt, &NAMES_USED_BEFORE_THEY_ARE_DECLARED_OF_FORMULAS)
@@ -101,18 +126,50 @@ fn names_declared_twice(rt: HostRuntime) -> Result<(), Fail> {
     check_all(&rt, &NAMES_DECLARED_TWICE)
 }
 
-const KINDS: [&str; 6] = [
+const KINDS: [&str; 7] = [
     "time 1; item p : bool; axiom A : p < true; ~  ~ 4 refused spec kind 12\n",
     "time 1; item p : red; ~  ~ 4 refused spec unknown 6\n",
     "time 1; domain d = {red}; item p : red; ~  ~ 4 refused spec kind 13\n",
     "time 1; item p : bool; item r(p) : bool; ~  ~ 4 refused spec kind 11\n",
     "time 1; axiom A : true; goal G : A; ~  ~ 4 refused spec kind 11\n",
     "time 1; axiom A : true; axiom B : 1 = A; ~  ~ 4 refused spec kind 13\n",
+    "time 1; domain c = {r}; domain e = {s}; item q(c) : bool; axiom A : q(s); ~  ~ 4 refused spec kind 30\n",
 ];
+
+/// Texts with several faults of a phase, of which the first in the text is reported, and names that are declared behind their use, too.
+const FIRST_OF_SEVERAL: [&str; 6] = [
+    "time 1; axiom A : all A : bool (A); axiom A : true; ~  ~ 4 refused spec twice 7\n",
+    "time 1; item p : bool; axiom A : p; axiom p : true; ~  ~ 4 refused spec twice 14\n",
+    "time 1; axiom A : 1000001 = 1; axiom B at 5 : true; ~  ~ 4 refused spec range 6\n",
+    "time 1; axiom A at 5 : true; axiom B : 1000001 = 1; ~  ~ 4 refused spec range 6\n",
+    "time 1; axiom A : 1 = true; axiom B : 1; ~  ~ 4 refused spec kind 7\n",
+    "time 1; axiom A : q; axiom B : r; ~  ~ 4 refused spec unknown 6\n",
+];
+
+#[test]
+fn first_of_several(rt: HostRuntime) -> Result<(), Fail> {
+    check_all(&rt, &FIRST_OF_SEVERAL)
+}
 
 #[test]
 fn kinds(rt: HostRuntime) -> Result<(), Fail> {
     check_all(&rt, &KINDS)
+}
+
+/// Sums and products where no number may stand, and items in those of a distance or an argument.
+const KINDS_OF_SUMS: [&str; 7] = [
+    "x + 1 ~ 4 refused spec kind 56\n",
+    "x + 1 = red ~ 4 refused spec kind 59\n",
+    "2 * x = w ~ 4 refused spec kind 59\n",
+    "p = [x - 1] ~ 4 refused spec kind 57\n",
+    "a(1 + 1, 1) = 1 ~ 4 refused spec kind 58\n",
+    "q(-x) ~ 4 refused spec kind 59\n",
+    "Dist(p, -x) ~ 4 refused spec kind 61\n",
+];
+
+#[test]
+fn kinds_of_sums(rt: HostRuntime) -> Result<(), Fail> {
+    check_formulas(&rt, &KINDS_OF_SUMS)
 }
 
 const KINDS_OF_FORMULAS: [&str; 92] = [
@@ -210,12 +267,31 @@ const KINDS_OF_FORMULAS: [&str; 92] = [
     "all y : bool (ex z : y (true)) ~ 4 refused spec kind 64\n",
 ];
 
+/// A term's first token, also where that is a sign or a number before `*`, and reads inside of a distance or an argument.
+const FIRST_TOKENS: [&str; 10] = [
+    "-x ~ 4 refused spec kind 56\n",
+    "2 * x ~ 4 refused spec kind 56\n",
+    "a(red, 1) ~ 4 refused spec kind 56\n",
+    "a(-1, 1) = 1 ~ 4 refused spec kind 58\n",
+    "a(2 * 1, 1) = 1 ~ 4 refused spec kind 58\n",
+    "q(2 * x) ~ 4 refused spec kind 60\n",
+    "q(2 * [x]) ~ 4 refused spec kind 61\n",
+    "Dist(p, 2 * x) ~ 4 refused spec kind 62\n",
+    "all y : n (all z : n (z(1))) ~ 4 refused spec kind 66\n",
+    "q < 1 ~ 4 refused spec kind 56\n",
+];
+
+#[test]
+fn first_tokens(rt: HostRuntime) -> Result<(), Fail> {
+    check_formulas(&rt, &FIRST_TOKENS)
+}
+
 #[test]
 fn kinds_of_formulas(rt: HostRuntime) -> Result<(), Fail> {
     check_formulas(&rt, &KINDS_OF_FORMULAS)
 }
 
-const RANGES: [&str; 37] = [
+const RANGES: [&str; 38] = [
     "time 0; ~  ~ 4 refused spec range 1\n",
     "time 1; ~  ~ 0 true\n",
     "time 256; ~  ~ 0 true\n",
@@ -250,6 +326,7 @@ const RANGES: [&str; 37] = [
     "time 0; axiom A at 0 : true; ~  ~ 4 refused spec range 1\n",
     "time 1; item p(bool, bool, bool, bool) : bool; ~  ~ 4 refused history missing p(0,0,0,0)\n",
     "time 1; item p(bool, bool, bool, bool, bool) : bool; ~  ~ 4 refused spec range 14\n",
+    "time 1; item p(bool, bool, bool, bool, bool, bool) : bool; ~  ~ 4 refused spec range 14\n",
     "time 1; domain d = {v0, v1, v2, v3, v4, v5, v6, v7, v8, v9, v10, v11, v12, v13, v14, v15, v16, v17, v18, v19, v20, v21, v22, v23, v24, v25, v26, v27, v28, v29, v30, v31, v32, v33, v34, v35, v36, v37, v38, v39, v40, v41, v42, v43, v44, v45, v46, v47, v48, v49, v50, v51, v52, v53, v54, v55, v56, v57, v58, v59, v60, v61, v62, v63}; ~  ~ 0 true\n",
     "time 1; domain d = {v0, v1, v2, v3, v4, v5, v6, v7, v8, v9, v10, v11, v12, v13, v14, v15, v16, v17, v18, v19, v20, v21, v22, v23, v24, v25, v26, v27, v28, v29, v30, v31, v32, v33, v34, v35, v36, v37, v38, v39, v40, v41, v42, v43, v44, v45, v46, v47, v48, v49, v50, v51, v52, v53, v54, v55, v56, v57, v58, v59, v60, v61, v62, v63, v64}; ~  ~ 4 refused spec range 135\n",
     "time 1; domain d = {v0, v1, v2, v3, v4, v5, v6, v7, v8, v9, v10, v11, v12, v13, v14, v15, v16, v17, v18, v19, v20, v21, v22, v23, v24, v25, v26, v27, v28, v29, v30, v31, v32, v33, v34, v35, v36, v37, v38, v39, v40, v41, v42, v43, v44, v45, v46, v47, v48, v49, v50, v51, v52, v53, v54, v55, v56, v57, v58, v59, v60, v61, v62, v63, v64, v65}; ~  ~ 4 refused spec range 135\n",
@@ -260,11 +337,12 @@ fn ranges(rt: HostRuntime) -> Result<(), Fail> {
     check_all(&rt, &RANGES)
 }
 
-const LIMITS: [&str; 22] = [
+const LIMITS: [&str; 23] = [
     "time 256; item a : bool; item b : bool; item c : bool; item d : bool; ~  ~ 4 refused history missing a\n",
     "time 205; item a : bool; item b : bool; item c : bool; item d : bool; item e : bool; ~  ~ 4 refused spec limit cells 1025\n",
     "time 1; domain d = 0..63; item a(d) : bool; item b(d, bool) : bool; ~  ~ 4 refused history missing a(0)\n",
     "time 1; domain d = 0..63; item a(d) : d; ~  ~ 4 refused history missing a(0)\n",
+    "time 1; domain d = 0..63; domain e = 0..0; item a(d) : d; item b : e; ~  ~ 4 refused spec limit sizes 4097\n",
     "time 1; domain d = 0..63; item a(d) : d; item b : bool; ~  ~ 4 refused spec limit sizes 4098\n",
     "time 16; domain d = 0..63; item a(d) : d; ~  ~ 4 refused spec limit sizes 65536\n",
     "time 17; domain d = 0..63; item a(d) : d; ~  ~ 4 refused spec limit cells 1088\n",
@@ -332,7 +410,7 @@ fn instance_counts(rt: HostRuntime) -> Result<(), Fail> {
 }
 
 /// Formulas in which the bound of one term, of 1,000,000 times 1,000,001, is above the limit.
-const BOUNDS_ABOVE_THE_LIMIT: [&str; 22] = [
+const BOUNDS_ABOVE_THE_LIMIT: [&str; 27] = [
     "1000000 * [1000000 + 1] = 1",
     "1 = 1000000 * [1000000 + 1]",
     "1000000 * [1 - 1000000] = 1",
@@ -355,6 +433,11 @@ const BOUNDS_ABOVE_THE_LIMIT: [&str; 22] = [
     "Alw(1000000 * [1000000 + 1] = 1)",
     "Dist(1000000 * [1000000 + 1] = 1, 1)",
     "Until(true, 1000000 * [1000000 + 1] = 1)",
+    "Until(1000000 * [1000000 + 1] = 1, true)",
+    "1000000 * [1000000 + 1] = 1 <-> true",
+    "1000000 * [1000000 + 1] = 1 & true",
+    "1000000 * [1000000 + 1] = 1 | true",
+    "all x : d (1000000 * [1000000 + 1] = x)",
 ];
 
 #[test]
@@ -373,11 +456,12 @@ fn bounds_above_the_limit(rt: HostRuntime) -> Result<(), Fail> {
 }
 
 /// Every axiom and goal counts, also one that stands at one instant.
-const COUNTED_CLAIMS: [&str; 4] = [
+const COUNTED_CLAIMS: [&str; 5] = [
     "time 256; axiom A at 0 : Alw(Alw(true)); ~  ~ 4 refused spec limit instances 16843008\n",
     "time 256; goal G at 0 : Alw(Alw(true)); ~  ~ 4 refused spec limit instances 16843008\n",
     "time 256; axiom A : Alw(Alw(true)); goal G : true; ~  ~ 4 refused spec limit instances 16843264\n",
     "time 1; goal G : 1000000 * [1000000 + 1] = 1; ~  ~ 4 refused spec limit bound 1000001000000\n",
+    "time 1; item p : bool; goal G : p & !(p & !(p & !(p & !(p & !(p & !(p & !(p & !(p & !(p & !(p & !(p & !(p & !(p & !(p & !(p & !(p & !(p & !(p & !(p & !(p & !(p & !(p & !(p & !(p & !(p & !(p & !(p & !(p & !(p & !(p & !(p & !(p & !(p & !(p & !(p & !(p & !(p & !(p & !(p & !(p & !(p & !(p & !(p & !(p & !(p & !(p & !(p & !(p & !(p & !(p & !(p))))))))))))))))))))))))))))))))))))))))))))))))))); ~  ~ 4 refused spec limit nest 101\n",
 ];
 
 #[test]
@@ -463,6 +547,26 @@ const OPERATORS: [&str; 40] = [
 #[test]
 fn operators(rt: HostRuntime) -> Result<(), Fail> {
     check_all(&rt, &OPERATORS)
+}
+
+/// Names with the first and the last of the letters and digits, and the bytes beside these.
+const BYTES_OF_NAMES: [&str; 11] = [
+    "time 1; item aAzZ09_ : bool; ~  ~ 4 refused history missing aAzZ09_\n",
+    "time 1; item z : bool; ~  ~ 4 refused history missing z\n",
+    "time 1; item Z : bool; ~  ~ 4 refused history missing Z\n",
+    "time 1; item `p : bool; ~  ~ 4 refused spec lex 13\n",
+    "time 1; item p` : bool; ~  ~ 4 refused spec lex 14\n",
+    "time 1; item p@ : bool; ~  ~ 4 refused spec lex 14\n",
+    "time 1; item p/ : bool; ~  ~ 4 refused spec lex 14\n",
+    "time 1; item p^ : bool; ~  ~ 4 refused spec lex 14\n",
+    "time 1; item p[ : bool; ~  ~ 4 refused spec syntax 5\n",
+    "time 1; item p{ : bool; ~  ~ 4 refused spec syntax 5\n",
+    "time 1; item p:bool; ~  ~ 4 refused history missing p\n",
+];
+
+#[test]
+fn bytes_of_names(rt: HostRuntime) -> Result<(), Fail> {
+    check_all(&rt, &BYTES_OF_NAMES)
 }
 
 const THE_GRAMMAR: [&str; 64] = [

@@ -26,6 +26,19 @@ axiom B : (3 * [x + 1] = 2 * [3 * x] - 1) -> p;
 goal G : true;
 ";
 
+const SPEC_OF_OPERATORS: &str =
+    "time 2;item p:bool;domain d=-3..-1;input x:d;axiom A:(ex v:d(v=x))&Alw(p)&!Alw(p)&(p<->!p)&((p->p)<->(p&p));
+goal G at 1:Since(p,Dist(p|(p|p),1+2));axiom B:x+[1-x]-2*x!=-[-1]+0;";
+
+const PRINTED_SPEC_OF_OPERATORS: &str = "time 2;
+domain d = -3..-1;
+item p : bool;
+input x : d;
+axiom A : ex v : d (v = x) & Alw(p) & (!Alw(p)) & (p <-> (!p)) & ((p -> p) <-> (p & p));
+axiom B : x + [1 - x] - 2 * x != -[-1] + 0;
+goal G at 1 : Since(p, Dist(p | (p | p), 1 + 2));
+";
+
 const ROWS: &str =
     "time 2; domain d = -1..0; domain m = {red, green}; item p : bool; item c(d, m) : m; item n : d;";
 
@@ -72,11 +85,33 @@ p: 1 1 1
 ";
 
 #[test]
-fn a_specification_as_it_is_printed(rt: HostRuntime) -> Result<(), Fail> {
+fn specifications_as_they_are_printed(rt: HostRuntime) -> Result<(), Fail> {
     let alloc = rt.alloc();
-    let spec = read_spec(alloc, SPEC.as_bytes())?;
-    let text = spec_text(alloc, &spec)?;
-    assert_eq!(rt; text.as_slice(), PRINTED_SPEC.as_bytes());
+    let rows = [
+        (SPEC, PRINTED_SPEC),
+        (SPEC_OF_OPERATORS, PRINTED_SPEC_OF_OPERATORS),
+    ];
+    for (text, want) in rows {
+        let spec = read_spec(alloc, text.as_bytes())?;
+        let printed = spec_text(alloc, &spec)?;
+        assert_eq!(rt; printed.as_slice(), want.as_bytes());
+    }
+    Ok(())
+}
+
+/// Which items are inputs: no command tells, and texts are printed by the words by which they are read.
+#[test]
+fn inputs_are_told_from_items(rt: HostRuntime) -> Result<(), Fail> {
+    let alloc = rt.alloc();
+    let spec = read_spec(
+        alloc,
+        b"time 1; item p : bool; input q : bool; item r : bool;",
+    )?;
+    let mut inputs = Vec::new(alloc);
+    for item in spec.items.as_slice() {
+        inputs.push(item.input)?;
+    }
+    assert_eq!(rt; inputs.as_slice(), [false, true, false].as_slice());
     Ok(())
 }
 

@@ -2,7 +2,7 @@
 ghost use Rattle.std.specs.Prelude.{◌≡◌, ◌<◌, ◌-◌, [], All, IfOk, Some, length, slice_get};
 ghost use Rattle.branch_state.specs.Branches.{Fits};
 
-use super::branches::{fitting_root, problem_of, stepped};
+use super::branches::{branch_text, fitting_root, problem_of, stepped};
 use super::tables::read_table;
 use branch_state::{Branch, Branches, List, Problem, Tables, copy, same, same_problem};
 use decompose::{Stepped, Steps};
@@ -31,6 +31,18 @@ const WITH_KEPT: [[u16; 3]; 5] = [[0, 0, 0], [0, 0, 1], [0, 1, 0], [0, 1, 1], [1
 fn open(alloc: Global, spec: &str) -> Result<Problem, Fail> {
     problem_of(alloc, spec.as_bytes(), "p: ? ? ?".as_bytes())
 }
+
+/// All tables, in order.
+const TABLES: [[u16; 3]; 8] = [
+    [0, 0, 0],
+    [0, 0, 1],
+    [0, 1, 0],
+    [0, 1, 1],
+    [1, 0, 0],
+    [1, 0, 1],
+    [1, 1, 0],
+    [1, 1, 1],
+];
 
 /// Asserts that tables are these, in this order.
 fn are(rt: &impl Abort, tables: &Tables, wanted: &[[u16; 3]]) {
@@ -148,6 +160,59 @@ fn absorbs(rt: &(impl Abort + AllocGlobal), problem: &Problem) -> Result<(), Fai
 fn a_region_that_absorbs(rt: HostRuntime) -> Result<(), Fail> {
     let problem = open(rt.alloc(), LASTING)?;
     absorbs(&rt, &problem)
+}
+
+/// What a region of the root gives before the first step and behind each: the halves of a branch stand in its place, the left one last.
+const GIVEN: [&str; 4] = [
+    "3 3 3; 9 0 t 0; 9 1 t 0; 9 2 t 0",
+    "3 3 3; 4 0 f 0; 8 0 t 0; 9 1 t 0; 9 2 t 0 | 3 3 3; 4 0 t 0; 9 1 t 0; 9 2 t 0",
+    "3 3 3; 4 0 f 0; 8 0 t 0; 9 1 t 0; 9 2 t 0 | 3 3 3; 1 0 t 0; 2 0 f 0; 9 1 t 0; 9 2 t 0 | 3 3 3; 1 0 f 0; 9 1 t 0; 9 2 t 0",
+    "3 3 3; 4 0 f 0; 8 0 t 0; 9 1 t 0; 9 2 t 0 | 3 3 3; 1 0 t 0; 2 0 f 0; 9 1 t 0; 9 2 t 0",
+];
+
+/// The branches that a region gives, with `|` between them.
+fn given_text(alloc: Global, region: &Region<'_>) -> Result<String, AllocError> {
+    let mut text = String::new(alloc);
+    for branch in region.given().as_slice() {
+        if !text.is_empty() {
+            text.push_str(" | ")?;
+        }
+        let shown = branch_text(alloc, branch)?;
+        text.push_str(shown.as_str())?;
+    }
+    Ok(text)
+}
+
+fn gives_in_order(rt: &(impl Abort + AllocGlobal), problem: &Problem) -> Result<(), Fail> {
+    let root = fitting_root(rt.alloc(), problem)?;
+    let mut whole = Region::give(rt.alloc(), problem, &root)?;
+    for want in GIVEN {
+        let text = given_text(rt.alloc(), &whole)?;
+        assert_eq!(rt; text.as_str(), want);
+        if !whole.given().is_empty() {
+            advance(rt.alloc(), &mut whole)?;
+        }
+    }
+    Ok(())
+}
+
+#[test]
+fn what_a_region_gives_in_order(rt: HostRuntime) -> Result<(), Fail> {
+    let problem = open(rt.alloc(), LASTING)?;
+    gives_in_order(&rt, &problem)
+}
+
+/// Asserts that where nothing is wanted the tables are found in order, the left half of each branch before the right one.
+fn finds_in_order(rt: &(impl Abort + AllocGlobal), problem: &Problem) -> Result<(), Fail> {
+    let Searched { whole, .. } = search(rt.alloc(), problem)?;
+    are(rt, whole.found(), TABLES.as_slice());
+    Ok(())
+}
+
+#[test]
+fn what_a_region_finds_in_order(rt: HostRuntime) -> Result<(), Fail> {
+    let problem = open(rt.alloc(), "time 3; item p : bool;")?;
+    finds_in_order(&rt, &problem)
 }
 
 /// Asserts that all regions are used.
@@ -326,6 +391,58 @@ fn runs_beside_kept(rt: &(impl Abort + AllocGlobal), problem: &Problem) -> Resul
 fn a_run_from_two_starts(rt: HostRuntime) -> Result<(), Fail> {
     let problem = open(rt.alloc(), LASTING)?;
     runs_beside_kept(&rt, &problem)
+}
+
+/// Asserts that a run from what an assembly leaves, with what it has found, finds the models.
+fn goes_on<'p>(
+    rt: &(impl Abort + AllocGlobal),
+    problem: &'p Problem,
+    parts: Vec<Region<'p>>,
+) -> Result<(), Fail> {
+    let starts = root_alone(rt.alloc(), problem)?;
+    let made = assemble(rt.alloc(), problem, starts, List::from_vec(parts))?;
+    assert!(rt; !made.rest.is_empty());
+    let outcome = run(rt.alloc(), problem, made.found, made.rest)?;
+    are(rt, &outcome.found, MODELS.as_slice());
+    Ok(())
+}
+
+/// Goes on where the later half of the steps was not taken.
+fn goes_on_from_half(rt: &(impl Abort + AllocGlobal), problem: &Problem) -> Result<(), Fail> {
+    let mut parts = parts_of(rt.alloc(), problem)?;
+    parts.truncate(parts.len() / 2);
+    goes_on(rt, problem, parts)
+}
+
+#[test]
+fn a_run_from_what_is_left(rt: HostRuntime) -> Result<(), Fail> {
+    let problem = open(rt.alloc(), LASTING)?;
+    goes_on_from_half(&rt, &problem)
+}
+
+/// The start of a region, in a list.
+fn start_alone(alloc: Global, region: &Region<'_>) -> Result<Branches, AllocError>
+    ensures { IfOk result (All (Fits region.now.problem)) }
+{
+    let _problem = region.problem();
+    let mut starts = Vec::new(alloc);
+    starts.push(copy(alloc, region.start())?)?;
+    Ok(List::from_vec(starts))
+}
+
+/// Asserts that a run from the start of a region finds what the region has found, which gives nothing.
+fn starts_again(rt: &(impl Abort + AllocGlobal), problem: &Problem) -> Result<(), Fail> {
+    let Searched { whole, .. } = search(rt.alloc(), problem)?;
+    let starts = start_alone(rt.alloc(), &whole)?;
+    let outcome = run(rt.alloc(), whole.problem(), List::new(rt.alloc()), starts)?;
+    are(rt, &outcome.found, MODELS.as_slice());
+    Ok(())
+}
+
+#[test]
+fn a_run_from_the_start_of_a_region(rt: HostRuntime) -> Result<(), Fail> {
+    let problem = open(rt.alloc(), LASTING)?;
+    starts_again(&rt, &problem)
 }
 
 fn all_models_are(rt: &(impl Abort + AllocGlobal), problem: &Problem) -> Result<(), Fail> {

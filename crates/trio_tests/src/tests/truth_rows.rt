@@ -20,7 +20,7 @@ const LASTING: [([u64; 3], Three); 9] = [
 ];
 
 /// What stands behind `time`, the sets of the three cells, and the truth.
-const ROWS: [(&str, [u64; 3], Three); 19] = [
+const ROWS: [(&str, [u64; 3], Three); 23] = [
     ("3; item p : bool;", [3, 3, 3], True),
     ("3; item p : bool; goal G : p;", [1, 1, 1], True),
     ("3; item p : bool; axiom A : p | !p;", [3, 3, 3], Unknown),
@@ -54,6 +54,26 @@ const ROWS: [(&str, [u64; 3], Three); 19] = [
     ),
     (
         "1; domain d = 0..2; item v(d) : d; axiom A : !(v(3) = v(3));",
+        [7, 7, 7],
+        True,
+    ),
+    (
+        "1; domain d = 0..2; item v(d) : d; axiom A : v(3) + v(0) = 0;",
+        [7, 7, 7],
+        False,
+    ),
+    (
+        "1; domain d = 0..2; item v(d) : d; axiom A : 2 * v(3) = v(0);",
+        [7, 7, 7],
+        False,
+    ),
+    (
+        "1; domain d = 0..2; item v(d) : d; axiom A : v(0) != -v(3);",
+        [7, 7, 7],
+        False,
+    ),
+    (
+        "1; domain d = 0..2; item v(d) : d; axiom A : !(v(0) < v(3));",
         [7, 7, 7],
         True,
     ),

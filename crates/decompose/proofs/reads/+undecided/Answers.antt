@@ -14,7 +14,7 @@ use Rattle.trio_types.specs.Cells.{cells_of}
 use Rattle.trio_core.specs.Three.{known_at}
 use Rattle.trio_core.specs.Stands.{world_of_core}
 use Rattle.trio_core.specs.Fits.{NodeTermFits, IsCellRead}
-use Rattle.trio_core.proofs.TermCases.{term_of}
+use Rattle.trio_types.proofs.Inductions.{term_of}
 use Rattle.trio_core.proofs.TermsFit.{times_part, sum_part, arg_values, args_known}
 use Rattle.branch_state.proofs.CodeReads.{flat_next}
 use Rattle.decompose.specs.Reads.{is_undecided, first_undecided}

@@ -2,7 +2,7 @@
 use Rattle.std.proofs.Common.{◌≡◌, take, None}
 use Rattle.std.specs.List.{flat_map}
 use Rattle.trio_core.specs.Stands.{world_of_core}
-use Rattle.trio_core.proofs.TermCases.{term_of}
+use Rattle.trio_types.proofs.Inductions.{term_of}
 use Rattle.decompose.specs.Reads.{first_undecided}
 use Rattle.decompose.proofs.Readings.{cells_read}
 use Rattle.decompose.proofs.reads.+undecided.Given as goal
