@@ -1,6 +1,5 @@
 -- How a place in a text is written, and the line of the text with a mark under the place.
 use Rattle.std.specs.Prelude.{ℕ, ◌-◌, min, not, ◌&&◌, ◌||◌, ◌==◌, nat_lt, if◌then◌else◌, List, [], ◌∷◌, ◌++◌, map, length, take, drop, take_while, codes, decimal}
-use Rattle.std.specs.List.{flat_map}
 use Rattle.explain_answers.specs.Place.{line_behind, column_behind}
 
 -- `FILE:LINE:COLUMN: ` for the byte of this number
@@ -12,9 +11,9 @@ place_words file text byte =
 abbrev pub shown : ℕ → ℕ
 shown b = if (nat_lt b 32 && not (b == 9)) || b == 127 then 63 else b
 
--- what is as wide as a byte: a tab for a tab, nothing where a character of several bytes goes on, else a blank
-abbrev pub blank : ℕ → List ℕ
-blank b = if b == 9 then 9 ∷ [] else if nat_lt 127 b && nat_lt b 192 then [] else 32 ∷ []
+-- what is as wide as a byte: a tab for a tab, else a blank; a byte outside ASCII stands in a comment, and no place behind that on its line
+abbrev pub blank : ℕ → ℕ
+blank b = if b == 9 then 9 else 32
 
 -- the last bytes of a text that stand on one line, at most 60
 abbrev pub line_so_far : List ℕ → List ℕ
@@ -28,4 +27,4 @@ rest_of_line text = take 40 (take_while (λ b. not (b == 10 || b == 13)) text)
 abbrev pub excerpt : List ℕ → ℕ → List ℕ
 excerpt text byte =
     map shown (line_so_far (take byte text)) ++ map shown (rest_of_line (drop byte text)) ++ codes "\n"
-    ++ flat_map blank (line_so_far (take byte text)) ++ codes "^\n"
+    ++ map blank (line_so_far (take byte text)) ++ codes "^\n"

@@ -1,6 +1,5 @@
 //! The line of a text in which something stands, with a mark under it.
 ghost use Rattle.std.specs.Prelude.{◌≡◌, ◌++◌, ◌∷◌, [], length, take, drop, take_while, not, ◌||◌, ◌==◌, ◌≤◌, map, codes, decimal, IfOk, OnOk};
-ghost use Rattle.std.specs.List.{flat_map};
 ghost use Rattle.explain_answers.specs.Place.{line_behind, column_behind};
 ghost use Rattle.explain_answers.specs.Excerpt.{place_words, shown, blank, line_so_far, rest_of_line, excerpt};
 ghost use Rattle.explain_answers.specs.Said.{said_at};
@@ -123,23 +122,17 @@ fn shown(byte: u8) -> u8
 
 /// Puts what is as wide as these bytes: a tab for a tab, a blank for every other character.
 fn put_blanks(out: &mut Vec<u8>, bytes: &[u8]) -> Result<(), AllocError>
-    ensures { OnOk result (out.new.items ≡ out.old.items ++ flat_map blank bytes.now) }
+    ensures { OnOk result (out.new.items ≡ out.old.items ++ map blank bytes.now) }
 {
     for byte in bytes {
-        put(out, blank(*byte))?;
+        out.push(blank(*byte))?;
     }
     Ok(())
 }
 
-/// What is as wide as a byte: nothing where it goes on with a character of several bytes.
-fn blank(byte: u8) -> &'static str
-    ensures { result.now ≡ blank byte }
+/// What is as wide as a byte. Bytes outside ASCII stand in comments alone, which end their lines, so none comes before a place on its line.
+fn blank(byte: u8) -> u8
+    ensures { result ≡ blank byte }
 {
-    if byte == b'\t' {
-        "\t"
-    } else if 127 < byte && byte < 192 {
-        ""
-    } else {
-        " "
-    }
+    if byte == b'\t' { b'\t' } else { b' ' }
 }

@@ -32,7 +32,7 @@ use Rattle.trio_main.specs.Due.{Due}
 use Rattle.trio_main.specs.Tell.{IsAbsent, TellsUnread}
 use Rattle.trio_main.specs.Refusal.{TellsRefused}
 use Rattle.history_table.specs.FittingLaws.{FirstUnknownLaw}
-use Rattle.trio_main.specs.Told.{IsSpecFile, IsHistoryFile, SpecRefused, HistoryRefused, LoadRefused, CheckRefused, IsRead, IsNotThere, WroteUnread, CheckTrueLaw, CheckFalseLaw, CheckRefusedLaw, CompleteLaw, CompleteRefusedLaw, NeverFalseLaw, UsageLaw, UnreadLaw, UnwrittenLaw, MemoryLaw}
+use Rattle.trio_main.specs.Told.{IsSpecFile, IsHistoryFile, SpecRefused, HistoryRefused, LoadRefused, CheckRefused, IsRead, IsNotThere, WroteUnread, CheckTrueLaw, CheckFalseLaw, CheckRefusedLaw, CompleteLaw, CompleteRefusedLaw, NeverFalseLaw, UsageLaw, UnreadLaw, UnwrittenLaw, MemoryLaw, TwoFilesLaw, SavesNoneLaw}
 use Rattle.trio_main.proofs.FileFaults.{read_status}
 use Rattle.trio_main.proofs.Checks.{verdict_read}
 use Rattle.trio_main.proofs.Completions.{completions_law, completions_sorted}
@@ -267,3 +267,12 @@ complete_refused = λ before now s h old new shelf sink tells.
       fetched = x.fetched;
       written = x.written sink;
     }
+
+pub two_files : TwoFilesLaw
+two_files (command.Check s h) = refl
+two_files (command.Complete s h) = refl
+
+pub saves_none : SavesNoneLaw
+saves_none None = refl
+saves_none (Some (command.Check s h)) = refl
+saves_none (Some (command.Complete s h)) = refl

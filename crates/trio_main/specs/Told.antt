@@ -22,6 +22,7 @@ use Rattle.trio_main.specs.declared.command.Command.{Command}
 use Rattle.trio_main.specs.declared.command.Command.TheVariants as command
 use Rattle.trio_main.specs.Answer.{Answers}
 use Rattle.trio_main.specs.Check.{TellsCheck}
+use Rattle.trio_main.specs.Command.{files_named, saved_name}
 use Rattle.trio_main.specs.Fault.{spec_refusal, history_refusal}
 use Rattle.trio_main.specs.Complete.{TellsComplete}
 use Rattle.trio_main.specs.Laws.{IsTrueExtension}
@@ -196,3 +197,10 @@ UnwrittenLaw = OfAny status.WriteFault WroteFront
 
 abbrev pub MemoryLaw : Type 0
 MemoryLaw = OfAny status.Memory (λ asked before now old new. new.written ≡ old.written ++ codes "fault memory\n")
+
+-- each command has places for two files, and none saves a file yet
+abbrev pub TwoFilesLaw : Type 0
+TwoFilesLaw = (c : Command) → files_named (Some c) ≡ 2
+
+abbrev pub SavesNoneLaw : Type 0
+SavesNoneLaw = (asked : Option Command) → saved_name asked ≡ None

@@ -1,6 +1,6 @@
 //! The law of completions, and what each status tells in words, as the contracts of functions that do nothing.
 ghost use Rattle.trio_main.specs.Laws.{CompletionsLaw, CompletionsOrder};
-ghost use Rattle.trio_main.specs.Told.{CheckTrueLaw, CheckFalseLaw, CheckRefusedLaw, CompleteLaw, CompleteRefusedLaw, NeverFalseLaw, UsageLaw, UnreadLaw, UnwrittenLaw, MemoryLaw};
+ghost use Rattle.trio_main.specs.Told.{CheckTrueLaw, CheckFalseLaw, CheckRefusedLaw, CompleteLaw, CompleteRefusedLaw, NeverFalseLaw, UsageLaw, UnreadLaw, UnwrittenLaw, MemoryLaw, TwoFilesLaw, SavesNoneLaw};
 
 use history_table::given_values_stay_and_gaps_are_found;
 
@@ -34,4 +34,10 @@ pub fn statuses_tell_their_causes()
     ensures unread { UnreadLaw }
     ensures unwritten { UnwrittenLaw }
     ensures memory { MemoryLaw }
+{}
+
+/// Each command has places for two files, so a call fetches two at most; and none saves a file.
+pub fn commands_read_two_files_and_save_none()
+    ensures reads { TwoFilesLaw }
+    ensures saves { SavesNoneLaw }
 {}

@@ -20,10 +20,6 @@ const RENAMED: &str = "time 3; item p : bool; axiom B : Dist(true, 1) & p -> Fut
 
 const OPEN: &str = "p: ? ? ?";
 
-fn lasting(alloc: Global) -> Result<Problem, Fail> {
-    problem_of(alloc, LASTING.as_bytes(), OPEN.as_bytes())
-}
-
 /// Asserts what the root of the problem is and weighs.
 fn root_is(rt: &(impl Abort + AllocGlobal), problem: &Problem) -> Result<(), Fail> {
     let root = fitting_root(rt.alloc(), problem)?;
@@ -31,12 +27,6 @@ fn root_is(rt: &(impl Abort + AllocGlobal), problem: &Problem) -> Result<(), Fai
     let text = branch_text(rt.alloc(), &root)?;
     assert_eq!(rt; text.as_str(), "3 3 3; 9 0 t 0; 9 1 t 0; 9 2 t 0");
     Ok(())
-}
-
-#[test]
-fn the_root_of_a_problem(rt: HostRuntime) -> Result<(), Fail> {
-    let problem = lasting(rt.alloc())?;
-    root_is(&rt, &problem)
 }
 
 /// Whether the root of a problem holds in a table.
@@ -70,12 +60,6 @@ fn root_holds_in(
     Ok(())
 }
 
-#[test]
-fn the_root_in_tables(rt: HostRuntime) -> Result<(), Fail> {
-    let problem = lasting(rt.alloc())?;
-    root_holds_in(&rt, &problem, IN_TABLES.as_slice())
-}
-
 /// Asserts what the branch of a table is.
 fn branch_of_table_is(rt: &(impl Abort + AllocGlobal), problem: &Problem) -> Result<(), Fail> {
     let table = read_table(rt, &problem.spec, "p: 0 1 1")?;
@@ -85,24 +69,12 @@ fn branch_of_table_is(rt: &(impl Abort + AllocGlobal), problem: &Problem) -> Res
     Ok(())
 }
 
-#[test]
-fn the_branch_of_a_table(rt: HostRuntime) -> Result<(), Fail> {
-    let problem = lasting(rt.alloc())?;
-    branch_of_table_is(&rt, &problem)
-}
-
 /// Asserts that a copy of the root is the root, and differs from its halves.
 fn is_copied(rt: &(impl Abort + AllocGlobal), problem: &Problem) -> Result<(), Fail> {
     let root = fitting_root(rt.alloc(), problem)?;
     let copied = copy(rt.alloc(), &root)?;
     assert!(rt; same(&root, &copied));
     parts_in_two(rt, problem, root, &copied)
-}
-
-#[test]
-fn a_copy_of_a_branch(rt: HostRuntime) -> Result<(), Fail> {
-    let problem = lasting(rt.alloc())?;
-    is_copied(&rt, &problem)
 }
 
 /// Asserts that a branch is parted in two that differ, and that the fork holds it and the two.
@@ -159,10 +131,19 @@ fn are_the_same(
     Ok(())
 }
 
+/// Asserts what each call gives on one problem.
+fn calls_give(rt: &(impl Abort + AllocGlobal), problem: &Problem) -> Result<(), Fail> {
+    root_is(rt, problem)?;
+    root_holds_in(rt, problem, IN_TABLES.as_slice())?;
+    branch_of_table_is(rt, problem)?;
+    is_copied(rt, problem)?;
+    are_the_same(rt, problem, PROBLEMS.as_slice())
+}
+
 #[test]
-fn problems_that_are_the_same(rt: HostRuntime) -> Result<(), Fail> {
-    let problem = lasting(rt.alloc())?;
-    are_the_same(&rt, &problem, PROBLEMS.as_slice())
+fn the_calls_on_a_problem(rt: HostRuntime) -> Result<(), Fail> {
+    let problem = problem_of(rt.alloc(), LASTING.as_bytes(), OPEN.as_bytes())?;
+    calls_give(&rt, &problem)
 }
 
 /// The values 4, -1, 7, 2 and 3.

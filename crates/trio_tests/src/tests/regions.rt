@@ -156,12 +156,6 @@ fn absorbs(rt: &(impl Abort + AllocGlobal), problem: &Problem) -> Result<(), Fai
     is_whole(rt, problem, whole)
 }
 
-#[test]
-fn a_region_that_absorbs(rt: HostRuntime) -> Result<(), Fail> {
-    let problem = open(rt.alloc(), LASTING)?;
-    absorbs(&rt, &problem)
-}
-
 /// What a region of the root gives before the first step and behind each: the halves of a branch stand in its place, the left one last.
 const GIVEN: [&str; 4] = [
     "3 3 3; 9 0 t 0; 9 1 t 0; 9 2 t 0",
@@ -196,12 +190,6 @@ fn gives_in_order(rt: &(impl Abort + AllocGlobal), problem: &Problem) -> Result<
     Ok(())
 }
 
-#[test]
-fn what_a_region_gives_in_order(rt: HostRuntime) -> Result<(), Fail> {
-    let problem = open(rt.alloc(), LASTING)?;
-    gives_in_order(&rt, &problem)
-}
-
 /// Asserts that where nothing is wanted the tables are found in order, the left half of each branch before the right one.
 fn finds_in_order(rt: &(impl Abort + AllocGlobal), problem: &Problem) -> Result<(), Fail> {
     let Searched { whole, .. } = search(rt.alloc(), problem)?;
@@ -227,13 +215,6 @@ fn uses_all<'p>(
     assert!(rt; made.rest.is_empty());
     assert_eq!(rt; made.dropped, 0);
     Ok(())
-}
-
-#[test]
-fn assembled_of_all_regions(rt: HostRuntime) -> Result<(), Fail> {
-    let problem = open(rt.alloc(), LASTING)?;
-    let parts = parts_of(rt.alloc(), &problem)?;
-    uses_all(&rt, &problem, parts)
 }
 
 /// Asserts that tables, with those that a region found, are the models.
@@ -268,12 +249,6 @@ fn leaves_the_last(rt: &(impl Abort + AllocGlobal), problem: &Problem) -> Result
     }
 }
 
-#[test]
-fn assembled_without_the_last_region(rt: HostRuntime) -> Result<(), Fail> {
-    let problem = open(rt.alloc(), LASTING)?;
-    leaves_the_last(&rt, &problem)
-}
-
 /// Asserts that no region is used where there is no start.
 fn starts_nowhere<'p>(
     rt: &(impl Abort + AllocGlobal),
@@ -288,13 +263,6 @@ fn starts_nowhere<'p>(
     assert!(rt; count > 0);
     assert_eq!(rt; made.dropped, count as u64);
     Ok(())
-}
-
-#[test]
-fn assembled_from_no_start(rt: HostRuntime) -> Result<(), Fail> {
-    let problem = open(rt.alloc(), LASTING)?;
-    let parts = parts_of(rt.alloc(), &problem)?;
-    starts_nowhere(&rt, &problem, parts)
 }
 
 /// Asserts that the root alone is left where no region is used, of so many.
@@ -313,10 +281,20 @@ fn leaves_the_root<'p>(
     Ok(())
 }
 
+/// Asserts what regions give and find, and what is assembled of all regions of a search, of all but the last, of none, and from no start.
+fn searches(rt: &(impl Abort + AllocGlobal), problem: &Problem) -> Result<(), Fail> {
+    gives_in_order(rt, problem)?;
+    absorbs(rt, problem)?;
+    uses_all(rt, problem, parts_of(rt.alloc(), problem)?)?;
+    starts_nowhere(rt, problem, parts_of(rt.alloc(), problem)?)?;
+    leaves_the_root(rt, problem, Vec::new(rt.alloc()))?;
+    leaves_the_last(rt, problem)
+}
+
 #[test]
-fn assembled_of_no_region(rt: HostRuntime) -> Result<(), Fail> {
+fn regions_of_a_search(rt: HostRuntime) -> Result<(), Fail> {
     let problem = open(rt.alloc(), LASTING)?;
-    leaves_the_root(&rt, &problem, Vec::new(rt.alloc()))
+    searches(&rt, &problem)
 }
 
 /// Asserts that no region of the second problem is used for the first.
@@ -387,12 +365,6 @@ fn runs_beside_kept(rt: &(impl Abort + AllocGlobal), problem: &Problem) -> Resul
     Ok(())
 }
 
-#[test]
-fn a_run_from_two_starts(rt: HostRuntime) -> Result<(), Fail> {
-    let problem = open(rt.alloc(), LASTING)?;
-    runs_beside_kept(&rt, &problem)
-}
-
 /// Asserts that a run from what an assembly leaves, with what it has found, finds the models.
 fn goes_on<'p>(
     rt: &(impl Abort + AllocGlobal),
@@ -414,12 +386,6 @@ fn goes_on_from_half(rt: &(impl Abort + AllocGlobal), problem: &Problem) -> Resu
     goes_on(rt, problem, parts)
 }
 
-#[test]
-fn a_run_from_what_is_left(rt: HostRuntime) -> Result<(), Fail> {
-    let problem = open(rt.alloc(), LASTING)?;
-    goes_on_from_half(&rt, &problem)
-}
-
 /// The start of a region, in a list.
 fn start_alone(alloc: Global, region: &Region<'_>) -> Result<Branches, AllocError>
     ensures { IfOk result (All (Fits region.now.problem)) }
@@ -439,21 +405,23 @@ fn starts_again(rt: &(impl Abort + AllocGlobal), problem: &Problem) -> Result<()
     Ok(())
 }
 
-#[test]
-fn a_run_from_the_start_of_a_region(rt: HostRuntime) -> Result<(), Fail> {
-    let problem = open(rt.alloc(), LASTING)?;
-    starts_again(&rt, &problem)
-}
-
 fn all_models_are(rt: &(impl Abort + AllocGlobal), problem: &Problem) -> Result<(), Fail> {
     let found = all_models(rt.alloc(), problem)?;
     are(rt, &found, MODELS.as_slice());
     Ok(())
 }
 
+/// Asserts what runs find from the root, from its halves, from what an assembly leaves, and from the start of a region.
+fn runs(rt: &(impl Abort + AllocGlobal), problem: &Problem) -> Result<(), Fail> {
+    all_models_are(rt, problem)?;
+    runs_beside_kept(rt, problem)?;
+    goes_on_from_half(rt, problem)?;
+    starts_again(rt, problem)
+}
+
 #[test]
-fn all_models_of_a_problem(rt: HostRuntime) -> Result<(), Fail> {
+fn runs_of_one_worker(rt: HostRuntime) -> Result<(), Fail> {
     root_gives_all_models();
     let problem = open(rt.alloc(), LASTING)?;
-    all_models_are(&rt, &problem)
+    runs(&rt, &problem)
 }
