@@ -122,19 +122,26 @@ fn made_history(alloc: Global, maker: &mut Maker, spec: &Spec) -> Result<Given, 
     read_history(alloc, spec, text.as_slice())
 }
 
+/// Makes the specification of this number, and tables of it.
+fn number_agrees(
+    rt: &(impl Abort + AllocGlobal),
+    number: u64,
+    seen: &mut Seen,
+) -> Result<(), Fail> {
+    let text = made_spec(rt.alloc(), number)?;
+    let spec = read_spec(rt.alloc(), text.as_bytes())?;
+    tables_agree(rt, &spec, &mut Maker::new(number), seen)
+}
+
 #[test]
 fn cores_agree_with_the_checker(rt: HostRuntime) -> Result<(), Fail> {
-    let alloc = rt.alloc();
     let mut seen = Seen {
         yes: 0,
         no: 0,
         open: 0,
     };
     for number in 0_u64..1000 {
-        let text = made_spec(alloc, number)?;
-        let spec = read_spec(alloc, text.as_bytes())?;
-        let mut maker = Maker::new(number);
-        tables_agree(&rt, &spec, &mut maker, &mut seen)?;
+        number_agrees(&rt, number, &mut seen)?;
     }
     assert!(rt; seen.yes >= 100 && seen.no >= 100 && seen.open >= 100);
     Ok(())

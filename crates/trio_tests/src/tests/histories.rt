@@ -1,13 +1,13 @@
 //! Histories that are printed, read and printed again.
 ghost use Rattle.std.specs.Prelude.{◌≡◌, length};
 ghost use Rattle.trio_types.specs.Verdict.{world_of};
-ghost use Rattle.trio_types.specs.Cells.{cells_of};
+ghost use Rattle.trio_types.specs.Cells.{IsTable, cells_of};
 ghost use Rattle.history_table.specs.Fitting.{IsGiven};
 
 use super::maker::Maker;
 use super::spec_maker::made_spec;
 use super::tables::{made_given, table_of};
-use history_table::{Given, given_text, read_history, table_text};
+use history_table::{Given, Table, given_text, read_history, table_text};
 use std::process::Abort;
 use std::test::Fail;
 use trio_reader::read_spec;
@@ -38,10 +38,22 @@ fn whole_comes_back(
     let alloc = rt.alloc();
     let found = table_of(alloc, spec, given)?;
     assert_eq!(rt; found.is_some(), !text.contains(&b'?'));
-    if let Some(table) = found {
-        let printed = table_text(alloc, spec, &table)?;
-        assert_eq!(rt; printed.as_slice(), text);
+    match found {
+        Some(table) => is_printed_as(rt, spec, &table, text),
+        None => Ok(()),
     }
+}
+
+fn is_printed_as(
+    rt: &(impl Abort + AllocGlobal),
+    spec: &Spec,
+    table: &Table,
+    text: &[u8],
+) -> Result<(), Fail>
+    requires { IsTable (world_of spec.now) table.now }
+{
+    let printed = table_text(rt.alloc(), spec, table)?;
+    assert_eq!(rt; printed.as_slice(), text);
     Ok(())
 }
 
@@ -58,14 +70,17 @@ fn histories_come_back(
     Ok(())
 }
 
+/// Makes the specification of this number, and histories of it.
+fn number_comes_back(rt: &(impl Abort + AllocGlobal), number: u64) -> Result<(), Fail> {
+    let text = made_spec(rt.alloc(), number)?;
+    let spec = read_spec(rt.alloc(), text.as_bytes())?;
+    histories_come_back(rt, &spec, &mut Maker::new(number))
+}
+
 #[test]
 fn made_histories_come_back(rt: HostRuntime) -> Result<(), Fail> {
-    let alloc = rt.alloc();
     for number in 0_u64..700 {
-        let text = made_spec(alloc, number)?;
-        let spec = read_spec(alloc, text.as_bytes())?;
-        let mut maker = Maker::new(number);
-        histories_come_back(&rt, &spec, &mut maker)?;
+        number_comes_back(&rt, number)?;
     }
     Ok(())
 }

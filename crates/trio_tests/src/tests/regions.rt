@@ -108,16 +108,27 @@ struct Searched<'p> {
 
 /// A search of at most 200 steps.
 fn search(alloc: Global, problem: &Problem) -> Result<Searched<'_>, AllocError> {
+    let mut searched = begun(alloc, problem)?;
+    take_steps(alloc, &mut searched)?;
+    Ok(searched)
+}
+
+/// A search before its first step.
+fn begun(alloc: Global, problem: &Problem) -> Result<Searched<'_>, AllocError> {
     let root = fitting_root(alloc, problem)?;
-    let mut whole = Region::give(alloc, problem, &root)?;
-    let mut parts = Vec::new(alloc);
+    let whole = Region::give(alloc, problem, &root)?;
+    let parts = Vec::new(alloc);
+    Ok(Searched { whole, parts })
+}
+
+fn take_steps(alloc: Global, searched: &mut Searched<'_>) -> Result<(), AllocError> {
     for _ in 0..200 {
-        if !whole.given().is_empty() {
-            parts.push(part_of_last(alloc, &whole)?)?;
-            advance(alloc, &mut whole)?;
+        if !searched.whole.given().is_empty() {
+            searched.parts.push(part_of_last(alloc, &searched.whole)?)?;
+            advance(alloc, &mut searched.whole)?;
         }
     }
-    Ok(Searched { whole, parts })
+    Ok(())
 }
 
 /// The root of a problem, in a list.
