@@ -18,6 +18,7 @@ use std::alloc::{AllocError, Global};
 use std::process::Abort;
 use std::test::Fail;
 use trio_reader::read_spec;
+use trio_types::Bytes;
 
 /// How many paths ended with no model and with one, and how often a half got all models of a branch and each half some.
 #[derive(Drop)]
@@ -246,19 +247,28 @@ fn is_lighter(
     Ok(())
 }
 
-/// A made problem, with a given history that leaves few tables.
+/// The text of a made given history that leaves few tables.
+fn made_open_text(
+    rt: &(impl Abort + AllocGlobal),
+    maker: &mut Maker,
+    spec: &[u8],
+) -> Result<Bytes, Fail> {
+    let spec = read_spec(rt.alloc(), spec)?;
+    let chance = 1 + maker.number(4);
+    let given = made_open_given(rt.alloc(), maker, &spec, 64, chance)?;
+    let text = given_text(rt.alloc(), &spec, &given)?;
+    Ok(text)
+}
+
+/// A made problem, with such a history.
 fn made_problem(
     rt: &(impl Abort + AllocGlobal),
     maker: &mut Maker,
     number: u64,
 ) -> Result<Problem, Fail> {
-    let alloc = rt.alloc();
-    let text = made_small_spec(alloc, number)?;
-    let spec = read_spec(alloc, text.as_bytes())?;
-    let chance = 1 + maker.number(4);
-    let given = made_open_given(alloc, maker, &spec, 64, chance)?;
-    let history = given_text(alloc, &spec, &given)?;
-    problem_of(alloc, text.as_bytes(), history.as_slice())
+    let text = made_small_spec(rt.alloc(), number)?;
+    let history = made_open_text(rt, maker, text.as_bytes())?;
+    problem_of(rt.alloc(), text.as_bytes(), history.as_slice())
 }
 
 /// Two paths of a made problem.

@@ -84,19 +84,18 @@ history 4
 p: 1 1 1
 ";
 
+/// Asserts what is printed of a specification.
+fn spec_is_printed(rt: &(impl Abort + AllocGlobal), text: &str, want: &str) -> Result<(), Fail> {
+    let spec = read_spec(rt.alloc(), text.as_bytes())?;
+    let printed = spec_text(rt.alloc(), &spec)?;
+    assert_eq!(rt; printed.as_slice(), want.as_bytes());
+    Ok(())
+}
+
 #[test]
 fn specifications_as_they_are_printed(rt: HostRuntime) -> Result<(), Fail> {
-    let alloc = rt.alloc();
-    let rows = [
-        (SPEC, PRINTED_SPEC),
-        (SPEC_OF_OPERATORS, PRINTED_SPEC_OF_OPERATORS),
-    ];
-    for (text, want) in rows {
-        let spec = read_spec(alloc, text.as_bytes())?;
-        let printed = spec_text(alloc, &spec)?;
-        assert_eq!(rt; printed.as_slice(), want.as_bytes());
-    }
-    Ok(())
+    spec_is_printed(&rt, SPEC, PRINTED_SPEC)?;
+    spec_is_printed(&rt, SPEC_OF_OPERATORS, PRINTED_SPEC_OF_OPERATORS)
 }
 
 /// Which items are inputs: no command tells, and texts are printed by the words by which they are read.
@@ -115,24 +114,31 @@ fn inputs_are_told_from_items(rt: HostRuntime) -> Result<(), Fail> {
     Ok(())
 }
 
-#[test]
-fn a_given_history_as_it_is_printed(rt: HostRuntime) -> Result<(), Fail> {
-    let alloc = rt.alloc();
-    let spec = read_spec(alloc, ROWS.as_bytes())?;
-    let given = read_history(alloc, &spec, GIVEN.as_bytes())?;
-    let text = given_text(alloc, &spec, &given)?;
+/// Asserts what is printed of a given history.
+fn given_is_printed(rt: &(impl Abort + AllocGlobal), spec: &Spec) -> Result<(), Fail> {
+    let given = read_history(rt.alloc(), spec, GIVEN.as_bytes())?;
+    let text = given_text(rt.alloc(), spec, &given)?;
     assert_eq!(rt; text.as_slice(), PRINTED_GIVEN.as_bytes());
     Ok(())
 }
 
-#[test]
-fn a_table_as_it_is_printed(rt: HostRuntime) -> Result<(), Fail> {
-    let alloc = rt.alloc();
-    let spec = read_spec(alloc, ROWS.as_bytes())?;
-    let table = read_table(&rt, &spec, WHOLE)?;
-    let text = table_text(alloc, &spec, &table)?;
+/// Asserts what is printed of a table.
+fn table_is_printed(rt: &(impl Abort + AllocGlobal), spec: &Spec) -> Result<(), Fail> {
+    let table = read_table(rt, spec, WHOLE)?;
+    let text = table_text(rt.alloc(), spec, &table)?;
     assert_eq!(rt; text.as_slice(), PRINTED_TABLE.as_bytes());
     Ok(())
+}
+
+fn rows_are_printed(rt: &(impl Abort + AllocGlobal), spec: &Spec) -> Result<(), Fail> {
+    given_is_printed(rt, spec)?;
+    table_is_printed(rt, spec)
+}
+
+#[test]
+fn a_given_history_and_a_table_as_they_are_printed(rt: HostRuntime) -> Result<(), Fail> {
+    let spec = read_spec(rt.alloc(), ROWS.as_bytes())?;
+    rows_are_printed(&rt, &spec)
 }
 
 /// The text of the list of the tables that these texts are.
@@ -155,16 +161,17 @@ fn add_table(tables: &mut Tables, table: Table) -> Result<(), AllocError>
     }
 }
 
+/// Asserts what is printed of four tables, and of none.
+fn lists_are_printed(rt: &(impl Abort + AllocGlobal), spec: &Spec) -> Result<(), Fail> {
+    let text = listed(rt, spec, &["p: 0 0 0", "p: 0 0 1", "p: 0 1 1", "p: 1 1 1"])?;
+    assert_eq!(rt; text.as_slice(), PRINTED_LIST.as_bytes());
+    let text = listed(rt, spec, &[])?;
+    assert_eq!(rt; text.as_slice(), b"histories 0\n".as_slice());
+    Ok(())
+}
+
 #[test]
 fn a_list_of_tables_as_it_is_printed(rt: HostRuntime) -> Result<(), Fail> {
     let spec = read_spec(rt.alloc(), b"time 3; item p : bool;")?;
-    let text = listed(
-        &rt,
-        &spec,
-        &["p: 0 0 0", "p: 0 0 1", "p: 0 1 1", "p: 1 1 1"],
-    )?;
-    assert_eq!(rt; text.as_slice(), PRINTED_LIST.as_bytes());
-    let text = listed(&rt, &spec, &[])?;
-    assert_eq!(rt; text.as_slice(), b"histories 0\n".as_slice());
-    Ok(())
+    lists_are_printed(&rt, &spec)
 }
