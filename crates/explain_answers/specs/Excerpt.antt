@@ -1,5 +1,5 @@
 -- How a place in a text is written, and the line of the text with a mark under the place.
-use Rattle.std.specs.Prelude.{ℕ, ◌-◌, min, not, ◌&&◌, ◌||◌, ◌==◌, nat_lt, if◌then◌else◌, List, [], ◌∷◌, ◌++◌, map, length, take, drop, take_while, codes, decimal}
+use Rattle.std.specs.Prelude.{ℕ, ◌-◌, min, not, ◌&&◌, ◌||◌, ◌==◌, nat_lt, if◌then◌else◌, List, ◌++◌, map, length, take, drop, take_while, codes, decimal}
 use Rattle.explain_answers.specs.Place.{line_behind, column_behind}
 
 -- `FILE:LINE:COLUMN: ` for the byte of this number

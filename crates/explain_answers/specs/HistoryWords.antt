@@ -1,5 +1,5 @@
 -- What is said of the first fault of a history's text.
-use Rattle.std.specs.Prelude.{◌≡◌, ℕ, ◌+◌, ◌≤◌, nat_lt, if◌then◌else◌, List, [], ◌++◌, Option, None, Some, slice_get, codes}
+use Rattle.std.specs.Prelude.{◌≡◌, ℕ, ◌+◌, ◌≤◌, nat_lt, if◌then◌else◌, List, ◌++◌, Option, None, Some, slice_get, codes}
 use Rattle.std.specs.Option.{option_and_then}
 use Rattle.trio_text.specs.declared.token.Token.{Token}
 use Rattle.trio_types.specs.declared.spec.Item.{Item}
