@@ -51,11 +51,6 @@ impl<'a> Source<'a> {
         }
     }
 
-    /// The kind of the token behind another.
-    pub fn kind_behind(self, token: usize) -> Option<TokenKind> {
-        self.kind(token.saturating_add(1))
-    }
-
     /// Whether the token of this number is this symbol.
     pub fn is_sign(self, token: usize, sign: Symbol) -> bool {
         self.kind(token) == Some(TokenKind::Sign(sign))
