@@ -1,6 +1,8 @@
 //! `trio_explain`: says in words, with the place in the text, what `trio` answers in short.
 #![tactic(auto)]
 
+ghost use Rattle.std.specs.Prelude.{◌≡◌, IfErr};
+
 use explain_answers::{Status, explained};
 use std::process::ExitCode;
 use std::rt::{Env, Files};
@@ -11,7 +13,9 @@ use trio_io::{FileShelf, OutSink};
 mod tests;
 
 /// The words behind the program's name. `Err` is want of memory; words that are no text count as none.
-fn words_given<R: Env + AllocGlobal>(rt: &R) -> Result<Vec<String>, Status> {
+fn words_given<R: Env + AllocGlobal>(rt: &R) -> Result<Vec<String>, Status>
+    ensures { IfErr result (λ status. status ≡ Status.Memory) }
+{
     let mut words = Vec::new(rt.alloc());
     match env::args(rt) {
         Ok(given) => {
