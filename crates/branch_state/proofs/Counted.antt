@@ -8,7 +8,6 @@ use Rattle.trio_core.specs.declared.nodes.Node.{Node}
 use Rattle.trio_core.specs.declared.nodes.Node.TheVariants as node
 use Rattle.trio_core.specs.Core.{numbers}
 use Rattle.trio_core.proofs.Flat.{row_at, row_before}
-use Rattle.trio_base.specs.declared.operators.Rel.{Rel}
 use Rattle.branch_state.specs.Weight.{part_count, node_count, node_counts, count_of_option, core_count}
 
 count_at : (nodes : List Node) (a from : ℕ) (n : Node) → slice_get nodes a ≡ Some n → core_count nodes a from ≡ node_count (node_counts (take a nodes)) from n
@@ -21,10 +20,6 @@ count_before nodes part a less inside =
     row_before (λ counts m. node_count counts 0 m) 1 nodes part a less inside
     ∙ row_at (λ counts m. node_count counts 0 m) 1 nodes part n.0 n.1
     ∙ sym (count_at nodes part 0 n.0 n.1)
-
--- the count of an atom is 1, and each part adds its own
-pub count-Atom : (nodes : List Node) (a from : ℕ) (r : Rel) (x y : Term) → slice_get nodes a ≡ Some (node.Atom r x y) → core_count nodes a from ≡ 1
-count-Atom nodes a from r x y at = count_at nodes a from (node.Atom r x y) at
 
 pub count-Not : (nodes : List Node) (a from b : ℕ) → slice_get nodes a ≡ Some (node.Not b) → b < a → core_count nodes a from ≡ core_count nodes b 0 + 1
 count-Not nodes a from b at less =

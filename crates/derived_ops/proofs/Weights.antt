@@ -1,5 +1,5 @@
 -- How large formulas are: a part is smaller than the whole, and a half of the parts than all.
-use Rattle.std.proofs.Common.{◌≡◌, ℕ, ◌+◌, ◌<◌, ◌≤◌, List, [], ◌∷◌, ◌++◌, map, length, take, drop, get_or, refl, sym, ap, ◌∙◌, arith}
+use Rattle.std.proofs.Common.{◌≡◌, ℕ, ◌+◌, ◌<◌, ◌≤◌, List, [], ◌∷◌, ◌++◌, map, length, take, drop, refl, sym, ap, ◌∙◌, arith}
 use Rattle.std.proofs.lemmas.List.{take-append-drop, length-take-le, length-drop}
 use Rattle.trio_base.specs.declared.operators.Rel.{Rel}
 use Rattle.trio_base.specs.declared.operators.OneOp.{OneOp}
@@ -128,10 +128,6 @@ weights-append (f ∷ fs) gs = omega (arith, weights-append fs gs, weights_more 
 some_weight : (fs : List Formula) → 0 < length fs → 0 < weights fs
 some_weight [] some = absurd (omega arith)
 some_weight (f ∷ fs) some = omega (arith, positive f, weights_more f fs)
-
-pub one_weight : (fs : List Formula) (f : Formula) → length fs ≡ 1 → f ≡ get_or fs 0 f → weight f ≤ weights fs
-one_weight [] f one is = absurd (omega arith)
-one_weight (g ∷ gs) f one is = let same : weight f ≡ weight g = ap weight is in omega (arith, same, weights_more g gs)
 
 pub front_weight : (fs gs : List Formula) (n : ℕ) → gs ≡ take n fs → n < length fs → weights gs < weights fs
 front_weight fs gs n is inside =

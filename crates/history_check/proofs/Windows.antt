@@ -49,13 +49,6 @@ selects_between n from to low high within there back = record {
 pub selects_as : (n from to : ℕ) (p q : ℕ → Bool) → ((j : ℕ) → q j ≡ p j) → Selects n from to p → Selects n from to q
 selects_as n from to p q same s = record { inside = s.inside; same = λ j below. same j ∙ s.same j below }
 
--- a test that never passes
-pub selects_none : (n : ℕ) (q : ℕ → Bool) → ((j : ℕ) → q j ≡ false) → Selects n 0 0 q
-selects_none n q never = record {
-  inside = omega arith;
-  same = λ j below. never j ∙ sym (false_from_ne_true (nat_le 0 j && nat_lt j 0) (λ h. let r = (decides_window 0 0 j).0 h in absurd (omega (arith, r.1))));
-}
-
 pub distance_between : (i : ℕ) (d : ℤ) (j : ℕ) → is_at_distance i (Some d) j ≡ is_between (pos i +ℤ d) ((pos i +ℤ d) +ℤ pos 1) j
 distance_between i d j =
     same_by (int_eq (pos j) (pos i +ℤ d)) (is_between (pos i +ℤ d) ((pos i +ℤ d) +ℤ pos 1) j) (Decides-int_eq (pos j) (pos i +ℤ d)) (decides_between (pos i +ℤ d) ((pos i +ℤ d) +ℤ pos 1) j)

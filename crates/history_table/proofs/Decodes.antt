@@ -7,7 +7,7 @@ use Rattle.trio_text.specs.declared.lexeme.Lexeme.{Lexeme}
 use Rattle.trio_text.specs.declared.lexeme.Lexeme.TheVariants as lexeme
 use Rattle.history_table.specs.declared.line.Value.{Value}
 use Rattle.history_table.specs.declared.line.Value.TheVariants as written
-use Rattle.history_table.specs.Decoding.{value_front, entries_of, with_entry, args_from, with_arg, args_front, Lacks, TookEntry}
+use Rattle.history_table.specs.Decoding.{value_front, entries_of, with_entry, args_from, with_arg, Lacks}
 
 -- what a value in front means for all that is read so
 pub record TakesValue (x : List Lexeme) (v : Value) (y : List Lexeme) : Type 0 where
@@ -39,28 +39,12 @@ no_args (lexeme.Word reserved.False ∷ x) e = cc
 no_args (lexeme.Name name ∷ x) e = cc
 no_args (t ∷ x) e = refl
 
-pub no_entries : (x : List Lexeme) → 0 < length x → Lacks (lexeme.Sign symbol.Unknown) x → value_front x ≡ None → entries_of x ≡ None
-no_entries [] some lacks e = absurd (omega (arith, some))
-no_entries (lexeme.Sign symbol.Unknown ∷ x) some lacks e = absurd (lacks refl)
-no_entries (lexeme.Number n ∷ x) some lacks e = cc
-no_entries (lexeme.Sign symbol.Minus ∷ lexeme.Number n ∷ x) some lacks e = cc
-no_entries (lexeme.Word reserved.True ∷ x) some lacks e = cc
-no_entries (lexeme.Word reserved.False ∷ x) some lacks e = cc
-no_entries (lexeme.Name name ∷ x) some lacks e = cc
-no_entries (t ∷ x) some lacks e = refl
-
 -- behind a value neither `)` nor `,`
 pub no_more : (x : List Lexeme) → Lacks (lexeme.Sign symbol.RightRound) x → Lacks (lexeme.Sign symbol.Comma) x → args_from false x ≡ None
 no_more [] l r = refl
 no_more (lexeme.Sign symbol.RightRound ∷ x) l r = absurd (l refl)
 no_more (lexeme.Sign symbol.Comma ∷ x) l r = absurd (r refl)
 no_more (t ∷ x) l r = refl
-
--- no `(` in front
-pub no_brackets : (x : List Lexeme) → Lacks (lexeme.Sign symbol.LeftRound) x → args_front x ≡ Some ([], x)
-no_brackets [] l = refl
-no_brackets (lexeme.Sign symbol.LeftRound ∷ x) l = absurd (l refl)
-no_brackets (t ∷ x) l = refl
 
 -- values that were found before what is left
 pub behind_args : List Value → Option (List Value × List Lexeme) → Option (List Value × List Lexeme)
@@ -84,12 +68,3 @@ behind_end found x = ap (λ vs. Some (vs, x)) (append-nil found)
 pub behind_nothing : (found : List Value) → behind_args found None ≡ None
 unfolding behind_args
 behind_nothing found = refl
-
-pub one_entry : (found : List (Option Value)) (entry : Option Value) (entries : Option (List (Option Value))) →
-    option_map (λ more. found ++ more) (with_entry entry entries) ≡ option_map (λ more. (found ++ entry ∷ []) ++ more) entries
-one_entry found entry None = refl
-one_entry found entry (Some more) = ap Some (sym (append_assoc found (entry ∷ []) more))
-
--- what an entry in front means
-pub takes_entry : (x : List Lexeme) (v : Value) (y : List Lexeme) → value_front x ≡ Some (v, y) → TookEntry x y (Some (Some v))
-takes_entry x v y e = let t = takes_value x v y e in (t.shorter, t.entries)

@@ -27,9 +27,6 @@ pub record Behind (world : World) (all left : List Numbered) (found : List Found
   pub are_found : AreFound world (placed_of seen) found
   pub same_fault : lines_fault world [] (placed_of all) ≡ lines_fault world (placed_of seen) (placed_of left)
 
-pub behind_start : (world : World) (all : List Numbered) → Behind world all all []
-behind_start world all = record { seen = []; whole = refl; are_found = tt; same_fault = refl }
-
 pub has_row_is : (world : World) (seen : List NumberedLine) (found : List Found) → AreFound world seen found → (row : Row) →
     have_row world seen row ≡ has_row found row
 has_row_is world [] [] are row = refl

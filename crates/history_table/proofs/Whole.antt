@@ -1,11 +1,11 @@
 -- A given history in which every value is known, value by value.
-use Rattle.std.proofs.Common.{◌≡◌, ℕ, ◌+◌, ◌<◌, ◌≤◌, nat_lt, List, [], ◌∷◌, ◌++◌, length, take, map, get_or, set, Option, None, Some, sym, ap, ◌∙◌, arith, is_none}
+use Rattle.std.proofs.Common.{◌≡◌, ℕ, ◌+◌, ◌<◌, nat_lt, List, [], ◌∷◌, ◌++◌, length, take, map, get_or, set, Option, None, Some, sym, ap, ◌∙◌, arith, is_none}
 use Rattle.std.specs.List.{position_or_len}
 use Rattle.std.proofs.Math.Path.{ap₂}
 use Rattle.std.proofs.Math.Logic.{⊎_elim}
 use Rattle.std.proofs.lemmas.Bool.{cases_lt, cond-true, lt-ltb, true≢false}
 use Rattle.std.proofs.lemmas.Option.{none-some}
-use Rattle.std.proofs.lemmas.List.{take_more, take_more_set, map-append, take_all}
+use Rattle.std.proofs.lemmas.List.{take_more, take_more_set, map-append}
 use Rattle.std.proofs.lemmas.List.Sums.{fails_before_first}
 use Rattle.history_table.specs.Fitting.{first_unknown}
 
@@ -22,8 +22,3 @@ pub known_more : (given : List (Option ℕ)) (table : List ℕ) (k index : ℕ) 
 known_more given table k index inside same is so_far =
     take_more given k None inside ∙ ap₂ (λ xs x. xs ++ x ∷ []) so_far (sym is)
     ∙ sym (map-append Some (take k table) (index ∷ [])) ∙ ap (map Some) (sym (take_more_set table k index (omega (arith, inside, same))))
-
-pub known_all : (given : List (Option ℕ)) (table : List ℕ) (k : ℕ) → length given ≤ k → length table ≡ length given →
-    take k given ≡ map Some (take k table) → given ≡ map Some table
-known_all given table k past same so_far =
-    sym (take_all k given past) ∙ so_far ∙ ap (map Some) (take_all k table (omega (arith, past, same)))

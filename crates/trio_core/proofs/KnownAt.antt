@@ -43,10 +43,6 @@ then_one f Nothing y e = absurd (nothing-one y e)
 then_one f Several y e = absurd (several-one y e)
 then_one f (One x) y e = (x, e)
 
-cell_one : (look : Cell → Known ℤ) (o : Option Cell) (z : ℤ) → known_of_cell look o ≡ One z → (c : Cell) × (o ≡ Some c) × (look c ≡ One z)
-cell_one look None z e = absurd (nothing-one z e)
-cell_one look (Some c) z e = (c, refl, e)
-
 -- the cell that is read is of the item
 pub read_one : (w : World) (number i : ℕ) (look : Cell → Known ℤ) (zs : List (Option ℤ)) (z : ℤ) →
     known_of_cell look (cell_of_item w number (slice_get w.items number) zs i) ≡ One z →

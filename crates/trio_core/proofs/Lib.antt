@@ -1,7 +1,6 @@
 -- The lemmas of the crate.
 pub mod TermsAt
 pub mod Flat
-pub mod Ranges
 pub mod Standing
 pub mod Looks
 pub mod Sole

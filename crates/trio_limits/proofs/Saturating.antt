@@ -1,5 +1,5 @@
 -- Counts as they are given, under sums, products and greatest of them.
-use Rattle.std.proofs.Common.{◌≡◌, ℕ, zero, suc, ◌+◌, ◌*◌, ◌≤◌, max, ap, ◌∙◌, arith}
+use Rattle.std.proofs.Common.{◌≡◌, ℕ, zero, suc, ◌*◌, ◌≤◌, ap, ◌∙◌, arith}
 use Rattle.std.proofs.Math.Logic.{⊎_elim}
 use Rattle.std.proofs.Math.Nat.{mul-le-mul_right, mul_comm}
 use Rattle.std.proofs.lemmas.Bool.{cases_lt}
@@ -7,18 +7,6 @@ use Rattle.trio_limits.specs.Given.{given_count}
 
 pub given_small : (x : ℕ) → x ≤ 18446744073709551615 → given_count x ≡ x
 given_small x small = omega arith
-
-pub given_add : (x y : ℕ) → given_count (given_count x + given_count y) ≡ given_count (x + y)
-given_add x y = omega arith
-
-pub given_more : (x n : ℕ) → given_count (given_count x + n) ≡ given_count (x + n)
-given_more x n = omega arith
-
-pub given_max : (x y : ℕ) → max (given_count x) (given_count y) ≡ given_count (max x y)
-given_max x y = omega arith
-
-pub given_given : (x : ℕ) → given_count (given_count x) ≡ given_count x
-given_given x = omega arith
 
 -- a product with a count
 pub given_times : (n x : ℕ) → given_count (n * given_count x) ≡ given_count (n * x)

@@ -1,5 +1,5 @@
 -- Filters of a list by tests that agree, or add up, on its elements.
-use Rattle.std.proofs.Common.{◌≡◌, ℕ, ◌+◌, Bool, true, false, cond, ◌&&◌, List, [], ◌∷◌, ◌++◌, filter, All, refl, sym, ap, ◌∙◌, arith}
+use Rattle.std.proofs.Common.{◌≡◌, ℕ, ◌+◌, Bool, true, false, cond, List, [], ◌∷◌, ◌++◌, filter, All, refl, sym, ap, ◌∙◌, arith}
 use Rattle.std.specs.List.{sum_by}
 use Rattle.std.proofs.lemmas.List.Sums.{sum_by-cons, sum_by-append}
 use Rattle.std.proofs.lemmas.List.Elements.{All-head, All-tail}
@@ -41,12 +41,3 @@ filter_none p (x ∷ xs) fail = rw (All-head (λ y. p y ≡ false) x xs fail) (f
 pub filter_every : {A : Type 0} (p : A → Bool) (xs : List A) → All (λ x. p x ≡ true) xs → filter p xs ≡ xs
 filter_every p [] pass = refl
 filter_every p (x ∷ xs) pass = rw (All-head (λ y. p y ≡ true) x xs pass) (ap (λ ys. x ∷ ys) (filter_every p xs (All-tail (λ y. p y ≡ true) x xs pass)))
-
-pub filter_filter : {A : Type 0} (p q : A → Bool) (xs : List A) → filter p (filter q xs) ≡ filter (λ x. q x && p x) xs
-filter_filter p q [] = refl
-filter_filter {A} p q (x ∷ xs) = at_head (q x) (filter q xs) (filter_filter p q xs)
-  where
-    at_head : (b : Bool) (qs : List A) → filter p qs ≡ filter (λ y. q y && p y) xs →
-        filter p (cond b (x ∷ qs) qs) ≡ cond (b && p x) (x ∷ filter (λ y. q y && p y) xs) (filter (λ y. q y && p y) xs)
-    at_head true qs more = ap (λ ys. cond (p x) (x ∷ ys) ys) more
-    at_head false qs more = more

@@ -65,22 +65,6 @@ are_spaced (p ∷ ps) = is_piece p && (can_meet (Some p) (first_of ps) && are_sp
 
 -- ---- texts in a row
 
-pub first-append : (x y : List Piece) → first_of (x ++ y) ≡ option_or (first_of x) (first_of y)
-first-append [] y = refl
-first-append (p ∷ x) y = refl
-
-pub last-append : (x y : List Piece) → last_of (x ++ y) ≡ option_or (last_of y) (last_of x)
-last-append [] y = go (last_of y)
-  where
-    go : (o : Option Piece) → o ≡ option_or o None
-    go None = refl
-    go (Some p) = refl
-last-append (p ∷ x) y = ap (λ o. option_or o (Some p)) (last-append x y) ∙ go (last_of y) (last_of x)
-  where
-    go : (o q : Option Piece) → option_or (option_or o q) (Some p) ≡ option_or o (option_or q (Some p))
-    go None q = refl
-    go (Some r) q = refl
-
 -- a text that is not empty has its last piece whatever stands before it
 last_from : (p q : Piece) (x : List Piece) → last_of (p ∷ q ∷ x) ≡ last_of (q ∷ x)
 last_from p q x = go (last_of x)
@@ -99,12 +83,6 @@ spaced_append (p ∷ q ∷ x) y front back met =
     (spaced_append (q ∷ x) y (and_right (can_meet (Some p) (Some q)) _ behind) back (ap (λ o. can_meet o (first_of y)) (sym (last_from p q x)) ∙ met)))
 
 -- ---- what may meet anything
-
-pub meets_none : (p : Option Piece) → can_meet p None ≡ true
-meets_none None = refl
-meets_none (Some (token x)) = refl
-meets_none (Some blank) = refl
-meets_none (Some line_end) = refl
 
 pub meets_blank : (p : Option Piece) → can_meet p (Some blank) ≡ true
 meets_blank None = refl
@@ -156,7 +134,3 @@ spaced_before_sign x t y stays front back = spaced_append x (token (lexeme.Sign 
 -- texts with a blank between them
 pub spaced_blank : (x y : List Piece) → are_spaced x ≡ true → are_spaced y ≡ true → are_spaced (x ++ blank ∷ y) ≡ true
 spaced_blank x y front back = spaced_append x (blank ∷ y) front back (meets_blank (last_of x))
-
--- texts with the end of a line between them
-pub spaced_line_end : (x y : List Piece) → are_spaced x ≡ true → are_spaced y ≡ true → are_spaced (x ++ line_end ∷ y) ≡ true
-spaced_line_end x y front back = spaced_append x (line_end ∷ y) front back (meets_line_end (last_of x))

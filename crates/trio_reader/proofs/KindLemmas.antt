@@ -61,9 +61,6 @@ length-integers : (low : ℤ) (count : ℕ) → length (integers low count) ≡ 
 unfolding integers
 length-integers low count = length-map-range_with_len (λ k. low +ℤ pos k) 0 count
 
-pub constant-none : (w : World) (d v : ℕ) → None ≡ slice_get w.domains d → no_kind ≡ kind_of_constant w d v
-constant-none w d v is = rw (← is) refl
-
 bool_if : (b : Bool) → seen (if b then code.Truth else code.Unkinded) ≡ elim b as (λ x. Kind) [ true ↦ truth_value | false ↦ no_kind ]
 bool_if true = refl
 bool_if false = refl
@@ -75,10 +72,6 @@ word_if d false = refl
 pub constant-bool : (w : World) (d v : ℕ) (domain : Domain) → Some domain ≡ slice_get w.domains d → domain.kind ≡ domain_kind.Bool →
     seen (if nat_lt v 2 then code.Truth else code.Unkinded) ≡ kind_of_constant w d v
 constant-bool w d v domain is bool = rw (← is, bool, length-integers) (bool_if (nat_lt v 2))
-
-pub constant-range : (w : World) (d v : ℕ) (domain : Domain) (low high : ℤ) → Some domain ≡ slice_get w.domains d → domain.kind ≡ domain_kind.Range low high →
-    no_kind ≡ kind_of_constant w d v
-constant-range w d v domain low high is range = rw (← is, range) refl
 
 pub constant-words : (w : World) (d v : ℕ) (domain : Domain) (words : List (List ℕ)) → Some domain ≡ slice_get w.domains d → domain.kind ≡ domain_kind.Words words →
     seen (if nat_lt v (length words) then code.Word d else code.Unkinded) ≡ kind_of_constant w d v

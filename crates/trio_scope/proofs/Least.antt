@@ -1,9 +1,9 @@
 -- The least place of joined lists, and of a list as far as a loop has come.
-use Rattle.std.proofs.Common.{◌≡◌, ℕ, ◌+◌, ◌<◌, ◌≤◌, Bool, true, false, not, if◌then◌else◌, List, [], ◌∷◌, ◌++◌, length, map, filter, take, get_or, Option, None, Some, refl, sym, ap, ◌∙◌, append_assoc, arith}
+use Rattle.std.proofs.Common.{◌≡◌, ℕ, ◌+◌, ◌<◌, ◌≤◌, List, [], ◌∷◌, ◌++◌, length, take, get_or, Option, None, Some, refl, sym, ap, ◌∙◌, append_assoc, arith}
 use Rattle.std.specs.List.{flat_map}
 use Rattle.std.proofs.lemmas.List.{append-nil, take_all, take_more}
 use Rattle.std.proofs.lemmas.Grind.{flat_map-append}
-use Rattle.trio_scope.specs.Places.{earlier, least, unless}
+use Rattle.trio_scope.specs.Places.{earlier, least}
 
 pub earlier-none : (p : Option ℕ) → earlier p None ≡ p
 earlier-none None = refl
@@ -43,15 +43,3 @@ pub least_end : {A : Type 0} (f : A → List ℕ) (front : List ℕ) {items xs :
     first ≡ least (front ++ flat_map f (take i xs)) → first ≡ least (front ++ flat_map f xs)
 least_end f front {items = items} {xs = xs} same {i = i} past before =
     before ∙ ap (λ zs. least (front ++ flat_map f zs)) (take_all i xs (rw (← same) past))
-
-if_passed : {A : Type 0} (place : A → ℕ) (x : A) (xs : List A) (rest : List ℕ) → map place xs ≡ rest → (b : Bool) →
-    map place (if b then x ∷ xs else xs) ≡ unless (not b) (place x) ++ rest
-if_passed place x xs rest same true = ap (λ ys. place x ∷ ys) same
-if_passed place x xs rest same false = same
-
--- the places of the elements that pass a test
-pub filtered : {A : Type 0} (test : A → Bool) (place : A → ℕ) (xs : List A) →
-    map place (filter test xs) ≡ flat_map (λ x. unless (not (test x)) (place x)) xs
-filtered test place [] = refl
-filtered test place (x ∷ xs) =
-    if_passed place x (filter test xs) (flat_map (λ y. unless (not (test y)) (place y)) xs) (filtered test place xs) (test x)

@@ -65,16 +65,10 @@ reads_then old middle new xs ys first second domains items ds tells =
       ← add_assoc items (length (items_in xs)) (length (items_in ys)),
     ) both
 
-pub reads_none : (names : Names) → AddsStatements names names []
-reads_none names domains items ds tells = rw (add-zero domains, add-zero items, append-nil ds) tells
-
 -- declarations behind others
 pub adds_then : (old middle new : Names) (xs ys : List Declaration) → AddsDeclarations old middle xs → AddsDeclarations middle new ys → AddsDeclarations old new (xs ++ ys)
 adds_then old middle new xs ys first second domains items ds tells =
     rw (← append_assoc ds xs ys) (second domains items (ds ++ xs) (first domains items ds tells))
-
-pub adds_none : (names : Names) → AddsDeclarations names names []
-adds_none names domains items ds tells = rw (append-nil ds) tells
 
 -- the statement that declares an item
 pub reads_item : (old middle new : Names) (i : ItemTree) → AddsDeclarations old middle (declaration i.name (meaning.Item old.items) ∷ []) → new.first ≡ middle.first →

@@ -1,5 +1,5 @@
 -- The first false axiom and instant, axiom by axiom.
-use Rattle.std.proofs.Common.{◌≡◌, ℕ, zero, suc, ◌+◌, ◌<◌, Bool, true, false, not, cond, List, [], ◌∷◌, map, Option, None, Some, slice_get, find, refl, sym, ap, ◌∙◌, arith}
+use Rattle.std.proofs.Common.{◌≡◌, ℕ, zero, suc, ◌+◌, ◌<◌, Bool, true, false, not, List, [], ◌∷◌, map, Option, None, Some, slice_get, find, refl, sym, ap, ◌∙◌, arith}
 use Rattle.std.specs.List.{enumerate_from, flat_map, list_all}
 use Rattle.std.specs.Option.{option_map, option_or}
 use Rattle.std.proofs.Math.Logic.{⊎_elim}
@@ -116,14 +116,6 @@ from_none w t n [] each = refl
 from_none w t n (b ∷ bs) each =
     ap (λ o. option_or (option_map (λ i. (n, i)) o) (first_false_from w t (n + 1) bs)) (each 0 b refl)
     ∙ from_none w t (n + 1) bs (λ k a at. each (suc k) a at)
-
--- one axiom's instants
-abbrev FalseFirst : World → List ℕ → Axiom → ℕ → Type 0
-FalseFirst w t a i =
-    IsAsked w a.at i × (truth w a.formula [] t i ≡ false) × ((j : ℕ) → j < i → IsAsked w a.at j → truth w a.formula [] t j ≡ true)
-
-one : (p : ℕ → Bool) (k : ℕ) → find (λ i. not (p i)) (k ∷ []) ≡ cond (not (p k)) (Some k) None
-one p k = refl
 
 asked_found : (w : World) (p : ℕ → Bool) (at : Option ℕ) (i : ℕ) → find (λ i. not (p i)) (instants_asked w at) ≡ Some i →
     IsAsked w at i × (p i ≡ false) × ((j : ℕ) → j < i → IsAsked w at j → p j ≡ true)
