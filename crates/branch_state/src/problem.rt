@@ -11,7 +11,7 @@ use trio_core::Core;
 use trio_types::Spec;
 
 /// Which tables extend a given history and make a specification true? The core stands for the specification, and the history fits it.
-#[derive(Debug, Drop)]
+#[derive(Drop)]
 pub struct Problem {
     pub spec: Spec,
     pub core: Core,

@@ -1,10 +1,11 @@
 //! Copies of the parts of specifications; only want of memory refuses them.
 ghost use Rattle.std.specs.Prelude.{◌≡◌, IfOk};
+ghost use Rattle.trio_types.specs.declared.formula.Formula.TheVariants as Formula;
 
 use sqlite_items::Boxed;
 use std::alloc::{AllocError, Global};
 use trio_types::{
-    Axiom, Domain, DomainKind, Domains, Formula, Formulas, Item, Items, List, Name, Names,
+    Axiom, Domain, DomainKind, Domains, Formula, Formulas, Item, Items, List, Name, Names, Rel,
     SignedTerm, SignedTerms, Term, Terms,
 };
 
@@ -94,37 +95,46 @@ fn copied_axiom(alloc: Global, claim: &Axiom) -> Result<Axiom, AllocError>
     })
 }
 
+fn copied_comparison(
+    alloc: Global,
+    rel: Rel,
+    left: &Term,
+    right: &Term,
+) -> Result<Formula, AllocError>
+    ensures { IfOk result (λ made. made ≡ Formula.Compare rel left.now right.now) }
+{
+    let left = copied_term(alloc, left)?;
+    let right = copied_term(alloc, right)?;
+    Ok(Formula::Compare(rel, left, right))
+}
+
 #[cycle(copied_formulas)]
 fn copied_formula(alloc: Global, formula: &Formula) -> Result<Formula, AllocError>
     ensures { IfOk result (λ made. made ≡ formula.now) }
 {
     match formula {
         Formula::Lone(term) => Ok(Formula::Lone(copied_term(alloc, term)?)),
-        Formula::Compare(rel, left, right) => {
-            let left = copied_term(alloc, left)?;
-            let right = copied_term(alloc, right)?;
-            Ok(Formula::Compare(*rel, left, right))
-        }
+        Formula::Compare(rel, left, right) => copied_comparison(alloc, *rel, left, right),
         Formula::Not(part) => Ok(Formula::Not(copied_part(alloc, part.get())?)),
         Formula::And(parts) => Ok(Formula::And(copied_formulas(alloc, parts.as_slice())?)),
         Formula::Or(parts) => Ok(Formula::Or(copied_formulas(alloc, parts.as_slice())?)),
         Formula::Implies(left, right) => {
             let left = copied_part(alloc, left.get())?;
-            let right = copied_part(alloc, right.get())?;
+            let (left, right) = copied_behind(alloc, right.get(), left)?;
             Ok(Formula::Implies(left, right))
         }
         Formula::Iff(left, right) => {
             let left = copied_part(alloc, left.get())?;
-            let right = copied_part(alloc, right.get())?;
+            let (left, right) = copied_behind(alloc, right.get(), left)?;
             Ok(Formula::Iff(left, right))
         }
         Formula::All(name, domain, body) => {
-            let body = copied_part(alloc, body.get())?;
-            Ok(Formula::All(name.copy(alloc)?, *domain, body))
+            let (name, body) = copied_bound(alloc, body.get(), name)?;
+            Ok(Formula::All(name, *domain, body))
         }
         Formula::Ex(name, domain, body) => {
-            let body = copied_part(alloc, body.get())?;
-            Ok(Formula::Ex(name.copy(alloc)?, *domain, body))
+            let (name, body) = copied_bound(alloc, body.get(), name)?;
+            Ok(Formula::Ex(name, *domain, body))
         }
         Formula::One(op, part) => Ok(Formula::One(*op, copied_part(alloc, part.get())?)),
         Formula::Far(op, part, distance) => {
@@ -134,7 +144,7 @@ fn copied_formula(alloc: Global, formula: &Formula) -> Result<Formula, AllocErro
         }
         Formula::Pair(op, first, second) => {
             let first = copied_part(alloc, first.get())?;
-            let second = copied_part(alloc, second.get())?;
+            let (first, second) = copied_behind(alloc, second.get(), first)?;
             Ok(Formula::Pair(*op, first, second))
         }
     }
@@ -145,6 +155,32 @@ fn copied_part(alloc: Global, part: &Formula) -> Result<Boxed<Formula>, AllocErr
     ensures { IfOk result (λ made. made ≡ part.now) }
 {
     Boxed::new(alloc, copied_formula(alloc, part)?)
+}
+
+/// A copy of a part, behind the copy of the part before it.
+#[cycle(copied_formulas)]
+fn copied_behind(
+    alloc: Global,
+    part: &Formula,
+    before: Boxed<Formula>,
+) -> Result<(Boxed<Formula>, Boxed<Formula>), AllocError>
+    ensures { IfOk result (λ made. made ≡ (before, part.now)) }
+{
+    let part = copied_part(alloc, part)?;
+    Ok((before, part))
+}
+
+#[cycle(copied_formulas)]
+fn copied_bound(
+    alloc: Global,
+    body: &Formula,
+    name: &Name,
+) -> Result<(Name, Boxed<Formula>), AllocError>
+    ensures { IfOk result (λ made. made ≡ (name.now, body.now)) }
+{
+    let name = name.copy(alloc)?;
+    let body = copied_part(alloc, body)?;
+    Ok((name, body))
 }
 
 #[cycle(copied_formulas)]

@@ -2,7 +2,7 @@
 use trio_base::{List, Name};
 
 /// A value as a line writes it.
-#[derive(Debug, Drop)]
+#[derive(Drop)]
 pub enum Value {
     Number(u32),
     /// A number behind `-`.
@@ -14,7 +14,7 @@ pub enum Value {
 pub type Values = List<Value>;
 
 /// A line of a history text: an item's name, arguments, and a value for each instant; none where `?` stands.
-#[derive(Debug, Drop)]
+#[derive(Drop)]
 pub struct Line {
     pub name: Name,
     pub args: Values,

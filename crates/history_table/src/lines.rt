@@ -15,7 +15,7 @@ use trio_text::{Lexeme, Token};
 use trio_types::Spec;
 
 /// A line without fault: which row it is, and the index that it gives each cell, where it is known.
-#[derive(Debug, Drop)]
+#[derive(Drop)]
 pub struct Found {
     pub row: RowParts,
     pub cells: List<Option<u16>>,

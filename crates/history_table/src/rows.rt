@@ -14,7 +14,7 @@ use trio_base::{List, Name};
 use trio_types::{DomainKind, Ids, Item, Spec, cell_count, cell_parts, index_of};
 
 /// A row: the number of its item, and the indexes of its arguments' values.
-#[derive(Debug, Drop)]
+#[derive(Drop)]
 pub struct RowParts {
     pub item: u32,
     pub args: Ids,

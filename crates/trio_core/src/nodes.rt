@@ -8,7 +8,7 @@ use trio_types::{Domains, Items, List, Rel, Term};
 pub const MOST_ROUND: u32 = 200;
 
 /// A node: a formula whose parts are nodes that stand before it, each by its number.
-#[derive(Debug, Drop)]
+#[derive(Drop)]
 pub enum Node {
     /// Two terms, true where both have a value and the values stand in the relation.
     Atom(Rel, Term, Term),
@@ -34,7 +34,7 @@ pub struct Root {
 pub type Roots = List<Root>;
 
 /// Nodes and roots over the instants, domains and items of a specification.
-#[derive(Debug, Drop)]
+#[derive(Drop)]
 pub struct Core {
     pub instants: u32,
     pub domains: Domains,

@@ -1,7 +1,7 @@
 //! What is counted of a term and of a formula. A count above the greatest number of 64 bits stays there.
 
 /// What is counted of a term.
-#[derive(Clone, Copy, Debug, PartialEq, Eq)]
+#[derive(Clone, Copy)]
 pub struct TermCounts {
     /// Its own static bound.
     pub own: u64,
@@ -34,7 +34,7 @@ impl TermCounts {
 }
 
 /// What is counted of a formula.
-#[derive(Clone, Copy, Debug, PartialEq, Eq)]
+#[derive(Clone, Copy)]
 pub struct Counts {
     /// The greatest static bound of a term in it.
     pub bound: u64,
@@ -76,7 +76,7 @@ impl Counts {
 }
 
 /// What is counted of arguments.
-#[derive(Clone, Copy, Debug, PartialEq, Eq)]
+#[derive(Clone, Copy)]
 pub struct ArgumentCounts {
     /// The greatest static bound of a term in them.
     pub most: u64,
@@ -85,7 +85,7 @@ pub struct ArgumentCounts {
 }
 
 /// What is counted of the parts of a sum.
-#[derive(Clone, Copy, Debug, PartialEq, Eq)]
+#[derive(Clone, Copy)]
 pub struct PartCounts {
     /// The sum of their static bounds.
     pub own: u64,
@@ -96,7 +96,7 @@ pub struct PartCounts {
 }
 
 /// What is counted of the parts of a conjunction or disjunction.
-#[derive(Clone, Copy, Debug, PartialEq, Eq)]
+#[derive(Clone, Copy)]
 pub struct ListCounts {
     /// The greatest static bound of a term in them.
     pub bound: u64,
@@ -107,7 +107,7 @@ pub struct ListCounts {
 }
 
 /// What is counted of axioms or goals.
-#[derive(Clone, Copy, Debug, PartialEq, Eq)]
+#[derive(Clone, Copy)]
 pub struct ClaimCounts {
     /// The greatest static bound of a term in them.
     pub bound: u64,

@@ -3,7 +3,7 @@
 use trio_types::{Axioms, Domains, Items};
 
 /// Instants, domains, items, axioms and goals that may make a specification.
-#[derive(Debug, Drop)]
+#[derive(Drop)]
 pub struct Draft {
     pub instants: u32,
     pub domains: Domains,

@@ -6,7 +6,7 @@ use trio_base::limits::{
 use trio_types::Which;
 
 /// The counts that have limits. One above the greatest number of 64 bits stays there.
-#[derive(Clone, Copy, Debug, PartialEq, Eq)]
+#[derive(Clone, Copy)]
 pub struct Totals {
     pub items: u64,
     pub cells: u64,

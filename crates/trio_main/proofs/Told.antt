@@ -1,5 +1,5 @@
 -- What each status tells, from the clauses' definitions to words.
-use Rattle.std.proofs.Common.{◌≡◌, ◌⊎◌, ℕ, ◌<◌, inl, inr, true, List, Option, None, Some, Result, Ok, Err, length, refl, sym, ap, subst, ◌∙◌, arith}
+use Rattle.std.proofs.Common.{◌≡◌, ◌⊎◌, ℕ, ◌<◌, inl, inr, true, List, Option, None, Some, Ok, Err, length, refl, sym, ap, subst, ◌∙◌, arith}
 use Rattle.std.specs.Prelude.{map, IsSomeAnd}
 use Rattle.trio_io.specs.Outside.{ShelfView, SinkView, Rose}
 use Rattle.trio_types.specs.declared.spec.Spec.{Spec}
@@ -12,7 +12,6 @@ use Rattle.trio_reader.specs.declared.fault.SpecFault.TheVariants as spec_fault
 use Rattle.history_table.specs.declared.fault.HistFault.{HistFault}
 use Rattle.history_table.specs.declared.fault.HistFault.TheVariants as history_fault
 use Rattle.history_table.specs.Printed.{name_of_row}
-use Rattle.history_check.specs.declared.checker.Verdict.{Verdict}
 use Rattle.history_check.specs.declared.checker.Verdict.TheVariants as verdict
 use Rattle.history_check.specs.Answers.{verdict_of}
 use Rattle.trio_main.specs.declared.status.Status.TheVariants as status

@@ -1,13 +1,18 @@
 //! `complete`: every complete history that extends a given one and satisfies the specification.
 ghost use Rattle.std.specs.Prelude.{Some};
 ghost use Rattle.trio_io.specs.Outside.{OnlyReads};
-ghost use Rattle.trio_main.specs.Answer.{Ends};
+ghost use Rattle.trio_types.specs.Verdict.{world_of};
+ghost use Rattle.history_table.specs.Texts.{list_text};
+ghost use Rattle.branch_state.specs.Models.{models};
+ghost use Rattle.trio_main.specs.Answer.{Ends, GivesOrWants};
+ghost use Rattle.trio_main.specs.declared.status.Status.{Status};
 ghost use Rattle.trio_main.specs.declared.command.Command.{Command};
 
 use crate::fault::Fault;
 use crate::listing::give_list;
 use crate::load::load;
 use crate::status::Status;
+use branch_state::Problem;
 use std::alloc::Global;
 use trio_base::Name;
 use trio_io::{Shelf, Sink};
@@ -26,7 +31,14 @@ pub fn job_complete<F: Shelf, K: Sink>(
     ensures ends { Ends (Some (Command.Complete spec.now history.now)) (F.seen shelf.old) (F.seen shelf.new) (K.seen out.old) (K.seen out.new) result }
 {
     let problem = load(alloc, shelf, spec, history)?;
-    match all_models(alloc, &problem) {
+    give_models(alloc, out, &problem)
+}
+
+/// Writes the list of a problem's models. `Memory` comes before the first write.
+fn give_models<K: Sink>(alloc: Global, out: &mut K, problem: &Problem) -> Result<Status, Fault>
+    ensures { GivesOrWants Status.Done (list_text (world_of problem.now.spec) (models problem.now)) (K.seen out.old) (K.seen out.new) result }
+{
+    match all_models(alloc, problem) {
         Ok(found) => give_list(alloc, out, &problem.spec, found),
         Err(_) => Err(Fault::Memory),
     }

@@ -46,7 +46,7 @@ impl Fault {
     {
         match fault {
             SpecFault::Memory => Fault::Memory,
-            fault => Fault::Spec(fault),
+            _ => Fault::Spec(fault),
         }
     }
 
@@ -61,7 +61,7 @@ impl Fault {
                 Ok(name) => Fault::Missing(name),
                 Err(_) => Fault::Memory,
             },
-            fault => Fault::History(fault),
+            _ => Fault::History(fault),
         }
     }
 

@@ -1,5 +1,5 @@
 -- A term of a tree at which no kind is at fault uses nothing that is not right.
-use Rattle.std.proofs.Common.{◌≡◌, ℕ, Bool, true, if◌then◌else◌, List, [], ◌∷◌, ◌++◌, Option, None, Some, length, map, slice_get, refl, sym, ap, subst, ◌∙◌}
+use Rattle.std.proofs.Common.{◌≡◌, ℕ, Bool, true, if◌then◌else◌, List, [], ◌∷◌, ◌++◌, Option, length, map, slice_get, refl, sym, ap, subst, ◌∙◌}
 use denote.Hole.Holds.{Such}
 use Rattle.std.specs.List.{flat_map, list_all, zip}
 use Rattle.std.specs.Option.{option_map}

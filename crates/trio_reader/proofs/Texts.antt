@@ -1,5 +1,5 @@
 -- A text is one tree at most, and has one first fault at most.
-use Rattle.std.proofs.Common.{◌≡◌, ◌≢◌, ℕ, true, List, Some, refl, sym, ap, subst, ◌∙◌}
+use Rattle.std.proofs.Common.{◌≡◌, ℕ, true, List, Some, refl, sym, ap, subst, ◌∙◌}
 use Rattle.std.proofs.lemmas.Option.{none-some}
 use Rattle.trio_types.specs.declared.spec.Spec.{Spec}
 use Rattle.trio_text.specs.declared.token.Token.{Token}

@@ -1,5 +1,5 @@
 -- What a text uses, as the kinds of a specification's parts are judged, with the token that is at fault where a use is wrong.
-use Rattle.std.specs.Prelude.{ℕ, Bool, List, [], ◌∷◌, ◌++◌, Option, None, Some, map, length, slice_get, zip}
+use Rattle.std.specs.Prelude.{ℕ, Bool, List, [], ◌∷◌, ◌++◌, map, length, slice_get, zip}
 use Rattle.std.specs.List.{flat_map}
 use Rattle.std.specs.Option.{option_map}
 use Rattle.trio_syntax.specs.declared.tree.Mention.{Mention}

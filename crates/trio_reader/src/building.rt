@@ -73,12 +73,12 @@ fn formula_of<'a>(
         }
         FormulaTree::Implies(left, right) => {
             let left = boxed_of(alloc, scope, around, left.get())?;
-            let right = boxed_of(alloc, scope, around, right.get())?;
+            let (left, right) = behind_of(alloc, scope, around, right.get(), left)?;
             Ok(Formula::Implies(left, right))
         }
         FormulaTree::Iff(left, right) => {
             let left = boxed_of(alloc, scope, around, left.get())?;
-            let right = boxed_of(alloc, scope, around, right.get())?;
+            let (left, right) = behind_of(alloc, scope, around, right.get(), left)?;
             Ok(Formula::Iff(left, right))
         }
         FormulaTree::Quantified(quantifier, variable, domain, body) => {
@@ -95,7 +95,7 @@ fn formula_of<'a>(
         }
         FormulaTree::Pair(op, left, right) => {
             let left = boxed_of(alloc, scope, around, left.get())?;
-            let right = boxed_of(alloc, scope, around, right.get())?;
+            let (left, right) = behind_of(alloc, scope, around, right.get(), left)?;
             Ok(Formula::Pair(*op, left, right))
         }
     }
@@ -140,6 +140,23 @@ fn boxed_of<'a>(
     ensures kept { OnOk result (around.new.items ≡ around.old.items) }
 {
     Boxed::new(alloc, formula_of(alloc, scope, around, formula)?)
+}
+
+/// A part of a formula, behind what was made of the part before it.
+#[cycle(building)]
+fn behind_of<'a>(
+    alloc: Global,
+    scope: &Scope<'_>,
+    around: &mut Vec<Binder<'a>>,
+    formula: &'a FormulaTree,
+    before: Boxed<Formula>,
+) -> Result<(Boxed<Formula>, Boxed<Formula>), AllocError>
+    ensures first { IfOk result (λ made. made.0 ≡ before) }
+    ensures made { IfOk result (λ made. made.1 ≡ spec.formula_of scope.now.tree.now formula.now (variables_from around.old.items)) }
+    ensures kept { OnOk result (around.new.items ≡ around.old.items) }
+{
+    let part = boxed_of(alloc, scope, around, formula)?;
+    Ok((before, part))
 }
 
 #[cycle(building)]

@@ -12,7 +12,7 @@ use trio_base::{Name, Rel};
 use trio_syntax::{FormulaTree, Mention, PartTree, RefTree, SpecTree, TermShape, TermTree};
 
 /// A variable in whose body something stands, and what names its domain.
-#[derive(Clone, Copy, Debug, Drop)]
+#[derive(Clone, Copy, Drop)]
 pub struct Binder<'a> {
     pub variable: &'a Mention,
     pub domain: &'a RefTree,

@@ -1,7 +1,8 @@
 -- What holds at the exits of a function that reads a form, by what the last call answered.
 use Rattle.std.proofs.Common.{◌≡◌, ℕ, ◌+◌, Bool, true, false, List, ◌++◌, length, refl, sym, ap, subst, ◌∙◌, Option, None, Some, Result, Ok, Err}
 use Rattle.trio_text.specs.declared.lexeme.Lexeme.{Lexeme}
-use Rattle.std.specs.Result.{IsErrAnd}
+use Rattle.std.specs.Result.{IsErrAnd, IfOk, result_ok, result_map_both}
+use Rattle.std.proofs.lemmas.Option.{none-some, some_pair_parts}
 use Rattle.std.specs.Bool.{OnTrue, OnFalse}
 use Rattle.trio_text.specs.declared.token.Symbol.TheVariants as signs
 use Rattle.trio_syntax.specs.declared.refusal.Refusal.{Refusal}
@@ -25,6 +26,19 @@ pub handed_on : {A : Type 0} (g h : Form A) (old middle new : Spot) (r : Result 
 handed_on g h old middle new (Ok v) left exact = left_read left exact
 handed_on g h old middle new (Err refusal.Syntax) left exact = left_stuck left exact
 handed_on g h old middle new (Err refusal.Memory) left exact = tt
+
+-- the last call, whose answer stands beside what was read before
+pub handed_as : {A B : Type 0} {g : Form A} {h : Form B} {value : B → A} {old middle : Spot} (new : Spot) {r : Result A Refusal} (q : Result B Refusal) →
+    Left g old h value middle → ExactAt h middle new q → r ≡ result_map_both value (λ e. e) q → ExactAt g old new r
+handed_as {g = g} {old = old} new (Ok v) left exact is = subst (λ y. ExactAt g old new y) (sym is) (left_read left exact)
+handed_as {g = g} {old = old} new (Err refusal.Syntax) left exact is = subst (λ y. ExactAt g old new y) (sym is) (left_stuck left exact)
+handed_as {g = g} {old = old} new (Err refusal.Memory) left exact is = subst (λ y. ExactAt g old new y) (sym is) tt
+
+-- a value, and the box that was made beside it
+pub made_beside : {A B E : Type 0} {kept f : A} {inner b : B} (q : Result B E) → IfOk q (λ v. v ≡ inner) →
+    result_map_both {U = A × B} (λ there. (kept, there)) (λ e. e) q ≡ Ok (f, b) → (f ≡ kept) × (b ≡ inner)
+made_beside {kept = kept} {f = f} {b = b} (Ok v) made is = let p = some_pair_parts kept f v b (ap result_ok is) in (sym p.0, sym p.1 ∙ made)
+made_beside {f = f} {b = b} (Err e) made is = absurd (none-some (f, b) (ap result_ok is))
 
 -- the same reading, with its value said otherwise
 pub reads_as : {A : Type 0} {g : Form A} {old new : Spot} {v w : A} → w ≡ v → ReadsForm g old new v → ReadsForm g old new w

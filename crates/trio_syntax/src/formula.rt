@@ -9,7 +9,7 @@ use crate::refusal::Refusal;
 use crate::steps::append;
 use crate::tree::{FormulaTree, Mention, RefTree, TermTree};
 use sqlite_items::Boxed;
-use trio_base::List;
+use trio_base::{List, beside, followed};
 use trio_text::{Reserved, Symbol};
 
 /// The conjunction of the parts; one part is itself.
@@ -129,7 +129,7 @@ impl<'a> Parser<'a> {
         }
         if let Some(op) = self.takes_far_operator() {
             let (part, distance) = self.distant()?;
-            let part = Boxed::new(self.alloc, part)?;
+            let (distance, part) = beside(distance, Boxed::new(self.alloc, part))?;
             return Ok(FormulaTree::Far(op, part, distance));
         }
         self.pair_or_atom()
@@ -144,8 +144,8 @@ impl<'a> Parser<'a> {
             return self.atom();
         };
         let (left, right) = self.paired()?;
-        let left = Boxed::new(self.alloc, left)?;
-        let right = Boxed::new(self.alloc, right)?;
+        let (right, left) = beside(right, Boxed::new(self.alloc, left))?;
+        let (left, right) = beside(left, Boxed::new(self.alloc, right))?;
         Ok(FormulaTree::Pair(op, left, right))
     }
 
@@ -165,8 +165,7 @@ impl<'a> Parser<'a> {
         ensures { Exact (before_sign (row formula) close) self.old self.new result }
     {
         let inner = self.formula()?;
-        self.sign(close)?;
-        Ok(inner)
+        followed(inner, self.sign(close))
     }
 
     /// The rest of a quantifier: name : ref ( formula )
@@ -188,9 +187,7 @@ impl<'a> Parser<'a> {
     {
         self.sign(Symbol::LeftRound)?;
         let part = self.formula_until(Symbol::Comma)?;
-        let distance = self.term()?;
-        self.sign(Symbol::RightRound)?;
-        Ok((part, distance))
+        beside(part, self.term_until(Symbol::RightRound))
     }
 
     /// The rest of an operator on two formulas: ( formula , formula )
@@ -200,8 +197,7 @@ impl<'a> Parser<'a> {
     {
         self.sign(Symbol::LeftRound)?;
         let left = self.formula_until(Symbol::Comma)?;
-        let right = self.formula_until(Symbol::RightRound)?;
-        Ok((left, right))
+        beside(left, self.formula_until(Symbol::RightRound))
     }
 
     /// atom = term [ rel term ]

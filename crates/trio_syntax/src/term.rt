@@ -1,17 +1,17 @@
 //! The rows of terms.
-ghost use Rattle.std.specs.Prelude.{◌≡◌, List, ◌∷◌};
+ghost use Rattle.std.specs.Prelude.{◌≡◌, List, ◌∷◌, true};
 ghost use Rattle.trio_syntax.specs.declared.tree.TermTree.{TermTree};
 ghost use Rattle.trio_syntax.specs.declared.tree.PartTree.{PartTree};
-ghost use Rattle.trio_syntax.specs.Forms.{row, term, summand, factor, basic};
-ghost use Rattle.trio_syntax.specs.Grammar.{listed, arguments, sum, named};
-ghost use Rattle.trio_syntax.specs.Exact.{Exact};
+ghost use Rattle.trio_syntax.specs.Forms.{sign, row, term, summand, factor, basic};
+ghost use Rattle.trio_syntax.specs.Grammar.{before_sign, listed, arguments, sum, named};
+ghost use Rattle.trio_syntax.specs.Exact.{tokens_of, goes_on, apart, Exact};
 
 use crate::parser::Parser;
 use crate::refusal::Refusal;
 use crate::steps::append;
 use crate::tree::{Mention, PartTree, TermShape, TermTree, Written};
 use sqlite_items::Boxed;
-use trio_base::List;
+use trio_base::{List, followed};
 use trio_text::Symbol;
 
 /// The sum of the parts; one part without a sign is itself.
@@ -116,14 +116,23 @@ impl<'a> Parser<'a> {
             return Ok(TermTree { place, shape });
         }
         if self.takes_sign(Symbol::LeftSquare) {
-            let inner = self.term()?;
-            self.sign(Symbol::RightSquare)?;
+            let inner = self.term_until(Symbol::RightSquare)?;
             let shape = inner.shape;
             return Ok(TermTree { place, shape });
         }
         let name = self.name()?;
         let arguments = self.arguments()?;
         Ok(named(place, name, arguments))
+    }
+
+    /// A term, and a symbol behind it that goes on with none.
+    #[cycle(term)]
+    pub fn term_until(&mut self, close: Symbol) -> Result<TermTree, Refusal>
+        requires { apart (goes_on term) (tokens_of (sign close)) ≡ true }
+        ensures { Exact (before_sign (row term) close) self.old self.new result }
+    {
+        let inner = self.term()?;
+        followed(inner, self.sign(close))
     }
 
     /// [ ( term { , term } ) ]

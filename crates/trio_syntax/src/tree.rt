@@ -3,7 +3,7 @@ use sqlite_items::Boxed;
 use trio_base::{FarOp, List, Name, OneOp, PairOp, Rel};
 
 /// A name as it is written, with its place.
-#[derive(Debug, Drop)]
+#[derive(Drop)]
 pub struct Mention {
     pub name: Name,
     pub place: usize,
@@ -18,7 +18,7 @@ pub struct Written {
 
 /// An occurrence of a term, with the place of its first token: that of the `[` where it stands in brackets.
 #[cycle(term)]
-#[derive(Debug, Drop)]
+#[derive(Drop)]
 pub struct TermTree {
     pub place: usize,
     pub shape: TermShape,
@@ -26,7 +26,7 @@ pub struct TermTree {
 
 /// What a term is. Brackets leave no trace.
 #[cycle(term)]
-#[derive(Debug, Drop)]
+#[derive(Drop)]
 pub enum TermShape {
     Number(Written),
     /// `false` or `true`.
@@ -43,14 +43,14 @@ pub enum TermShape {
 
 /// A part of a sum, with `-` before it or without; the term's place is that of the first token behind the sign.
 #[cycle(term)]
-#[derive(Debug, Drop)]
+#[derive(Drop)]
 pub struct PartTree {
     pub minus: bool,
     pub term: TermTree,
 }
 
 /// What an argument, a value or a variable ranges over: `bool`, or the domain of a name.
-#[derive(Debug, Drop)]
+#[derive(Drop)]
 pub enum RefTree {
     Bool,
     Named(Mention),
@@ -64,7 +64,7 @@ pub enum Quantifier {
 }
 
 /// A formula as it is written. Brackets leave no trace.
-#[derive(Debug, Drop)]
+#[derive(Drop)]
 pub enum FormulaTree {
     /// A term alone.
     Lone(TermTree),
@@ -95,21 +95,21 @@ pub struct IntTree {
 }
 
 /// The values of a domain: from the one number to the other, or words.
-#[derive(Debug, Drop)]
+#[derive(Drop)]
 pub enum ValuesTree {
     Range(IntTree, IntTree),
     Words(List<Mention>),
 }
 
 /// The declaration of a domain.
-#[derive(Debug, Drop)]
+#[derive(Drop)]
 pub struct DomainTree {
     pub name: Mention,
     pub values: ValuesTree,
 }
 
 /// The declaration of an item, with what its arguments range over.
-#[derive(Debug, Drop)]
+#[derive(Drop)]
 pub struct ItemTree {
     pub input: bool,
     pub name: Mention,
@@ -118,14 +118,14 @@ pub struct ItemTree {
 }
 
 /// A declaration of a domain or of an item.
-#[derive(Debug, Drop)]
+#[derive(Drop)]
 pub enum DeclarationTree {
     Domain(DomainTree),
     Item(ItemTree),
 }
 
 /// An axiom or a goal, with the number behind `at`.
-#[derive(Debug, Drop)]
+#[derive(Drop)]
 pub struct ClaimTree {
     pub goal: bool,
     pub name: Mention,
@@ -134,7 +134,7 @@ pub struct ClaimTree {
 }
 
 /// A specification as it is written.
-#[derive(Debug, Drop)]
+#[derive(Drop)]
 pub struct SpecTree {
     pub instants: Written,
     pub declarations: List<DeclarationTree>,

@@ -15,5 +15,6 @@ mod sets;
 mod spec_maker;
 mod step_rows;
 mod tables;
+mod tokens;
 mod truth_rows;
 mod weights;

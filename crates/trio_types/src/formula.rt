@@ -4,7 +4,7 @@ use trio_base::{FarOp, List, Name, OneOp, PairOp, Rel};
 
 /// A term: what atoms compare, and what distances and arguments are.
 #[cycle(term)]
-#[derive(Debug, Drop)]
+#[derive(Drop)]
 pub enum Term {
     /// A whole number.
     Number(u32),
@@ -22,7 +22,7 @@ pub enum Term {
 
 /// A part of a sum, and whether it is subtracted.
 #[cycle(term)]
-#[derive(Debug, Drop)]
+#[derive(Drop)]
 pub struct SignedTerm {
     pub minus: bool,
     pub term: Term,
@@ -33,7 +33,7 @@ pub type Terms = List<Term>;
 pub type SignedTerms = List<SignedTerm>;
 
 /// A formula, true or false at each instant.
-#[derive(Debug, Drop)]
+#[derive(Drop)]
 pub enum Formula {
     /// A term of kind bool, true where its value is 1.
     Lone(Term),

@@ -12,7 +12,7 @@ pub type Ids = List<u32>;
 pub type Names = List<Name>;
 
 /// The values of a domain; there are 1 to 64. The index of a value is its place from 0.
-#[derive(Debug, Drop)]
+#[derive(Drop)]
 pub enum DomainKind {
     /// `false` and `true`, with the indexes 0 and 1.
     Bool,
@@ -23,7 +23,7 @@ pub enum DomainKind {
 }
 
 /// A domain with its name.
-#[derive(Debug, Drop)]
+#[derive(Drop)]
 pub struct Domain {
     pub name: Name,
     pub kind: DomainKind,
@@ -32,7 +32,7 @@ pub struct Domain {
 pub type Domains = List<Domain>;
 
 /// A time-dependent item: for each tuple of its arguments and each instant it has a value.
-#[derive(Debug, Drop)]
+#[derive(Drop)]
 pub struct Item {
     pub name: Name,
     /// Whether it was declared as an input.
@@ -46,7 +46,7 @@ pub struct Item {
 pub type Items = List<Item>;
 
 /// A formula that has to hold, at every instant or at one.
-#[derive(Debug, Drop)]
+#[derive(Drop)]
 pub struct Axiom {
     pub name: Name,
     /// The one instant, where there is one.
@@ -59,7 +59,7 @@ pub type Axioms = List<Axiom>;
 pub type Goal = Axiom;
 
 /// A specification. Instants are `0..instants`. Domain 0 is `bool`.
-#[derive(Debug, Drop)]
+#[derive(Drop)]
 pub struct Spec {
     pub instants: u32,
     pub domains: Domains,

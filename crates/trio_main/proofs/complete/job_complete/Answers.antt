@@ -1,11 +1,10 @@
 -- The fault of either file, or the list of models.
-use Rattle.std.proofs.Common.{Some, arith, inr, refl, sym, ap}
+use Rattle.std.proofs.Common.{Some, arith, inr, refl}
 use Rattle.std.proofs.lemmas.Result.{err_from_is_err_and}
-use Rattle.branch_state.specs.Posed.{Posed}
+use Rattle.branch_state.specs.Models.{models}
 use Rattle.trio_main.specs.declared.command.Command.TheVariants as command
 use Rattle.trio_main.proofs.Loaded.{load_cause_answers}
 use Rattle.trio_main.proofs.Completes.{load_fault_due, listed_ends}
-use Rattle.trio_main.proofs.Completions.{models_fit}
 use Rattle.trio_main.proofs.complete.job_complete.Goals as goal
 
 pub returns-in_err-problem-clause-ends : goal.returns-in_err-problem-clause-ends
@@ -22,13 +21,8 @@ returns-in_err-problem-clause-ends g c =
       refl,
     ))
 
-pub give_list-requires : goal.give_list-requires
-give_list-requires g c =
-    models_fit c.in_ok-problem.problem c.problem.inside.spec c.in-Ok.found (ap (λ (p : Posed). p.spec) (sym c.problem.view_is)) c.in-Ok.ensures
-
-pub returns-in-Ok-clause-ends : goal.returns-in-Ok-clause-ends
-returns-in-Ok-clause-ends g c =
+pub returns-clause-ends : goal.returns-clause-ends
+returns-clause-ends g c =
     listed_ends (g.F.Shelf.seen c.args.shelf.now) (g.F.Shelf.seen c.load.new.shelf) c.args.spec.now c.args.history.now c.in_ok-problem.problem
-    c.problem.inside.spec c.in-Ok.found (g.K.Sink.seen c.args.out.now) (g.K.Sink.seen c.give_list.new.out) c.give_list.result
-    (ap (λ (p : Posed). p.spec) (sym c.problem.view_is)) c.in_ok-problem.ensures.reads c.in_ok-problem.ensures.loads c.in-Ok.ensures
-    c.give_list.ensures
+    c.in_ok-problem.problem.spec (models c.in_ok-problem.problem) (g.K.Sink.seen c.args.out.now) (g.K.Sink.seen c.give_models.new.out) c.give_models.result
+    refl c.in_ok-problem.ensures.reads c.in_ok-problem.ensures.loads refl c.give_models.ensures

@@ -22,30 +22,6 @@ pub formula_of-returns-in_ok-formulas_of-in-Or-clause-made : goal.formula_of-ret
 formula_of-returns-in_ok-formulas_of-in-Or-clause-made t c =
     rw (c.in-Or.is, formula-Or, c.in_ok-formulas_of-in-Or.ensures.made, c.as_slice-in-Or.ensures) refl
 
-pub formula_of-returns-in_ok-right-in-Implies-clause-made : goal.formula_of-returns-in_ok-right-in-Implies-clause-made
-formula_of-returns-in_ok-right-in-Implies-clause-made t c =
-    rw (
-      c.in-Implies.is,
-      formula-Implies,
-      c.in_ok-right-in-Implies.ensures.made,
-      c.in_ok-left-in-Implies.ensures.kept,
-      c.in_ok-left-in-Implies.ensures.made,
-      c.get-in-Implies.ensures,
-      c.get-in-Implies-2.ensures,
-    ) refl
-
-pub formula_of-returns-in_ok-right-in-Iff-clause-made : goal.formula_of-returns-in_ok-right-in-Iff-clause-made
-formula_of-returns-in_ok-right-in-Iff-clause-made t c =
-    rw (
-      c.in-Iff.is,
-      formula-Iff,
-      c.in_ok-right-in-Iff.ensures.made,
-      c.in_ok-left-in-Iff.ensures.kept,
-      c.in_ok-left-in-Iff.ensures.made,
-      c.get-in-Iff.ensures,
-      c.get-in-Iff-2.ensures,
-    ) refl
-
 pub formula_of-returns-in-Quantified-clause-made : goal.formula_of-returns-in-Quantified-clause-made
 formula_of-returns-in-Quantified-clause-made t c =
     rw (c.in-Quantified.is, formula-Quantified, ← c.get-in-Quantified.ensures) c.quantified_of.ensures.made
@@ -66,12 +42,39 @@ formula_of-returns-in_ok-distance-in-Far-clause-made t c =
       c.get-in-Far.ensures,
     ) refl
 
-pub formula_of-returns-in_ok-right-in-Pair-clause-made : goal.formula_of-returns-in_ok-right-in-Pair-clause-made
-formula_of-returns-in_ok-right-in-Pair-clause-made t c =
+pub formula_of-returns-in_ok-left-in-Implies-2-clause-made : goal.formula_of-returns-in_ok-left-in-Implies-2-clause-made
+formula_of-returns-in_ok-left-in-Implies-2-clause-made t c =
+    rw (
+      c.in-Implies.is,
+      formula-Implies,
+      c.in_ok-left-in-Implies-2.ensures.first,
+      c.in_ok-left-in-Implies-2.ensures.made,
+      c.in_ok-left-in-Implies.ensures.kept,
+      c.in_ok-left-in-Implies.ensures.made,
+      c.get-in-Implies.ensures,
+      c.get-in-Implies-2.ensures,
+    ) refl
+
+pub formula_of-returns-in_ok-left-in-Iff-2-clause-made : goal.formula_of-returns-in_ok-left-in-Iff-2-clause-made
+formula_of-returns-in_ok-left-in-Iff-2-clause-made t c =
+    rw (
+      c.in-Iff.is,
+      formula-Iff,
+      c.in_ok-left-in-Iff-2.ensures.first,
+      c.in_ok-left-in-Iff-2.ensures.made,
+      c.in_ok-left-in-Iff.ensures.kept,
+      c.in_ok-left-in-Iff.ensures.made,
+      c.get-in-Iff.ensures,
+      c.get-in-Iff-2.ensures,
+    ) refl
+
+pub formula_of-returns-in_ok-left-in-Pair-2-clause-made : goal.formula_of-returns-in_ok-left-in-Pair-2-clause-made
+formula_of-returns-in_ok-left-in-Pair-2-clause-made t c =
     rw (
       c.in-Pair.is,
       formula-Pair,
-      c.in_ok-right-in-Pair.ensures.made,
+      c.in_ok-left-in-Pair-2.ensures.first,
+      c.in_ok-left-in-Pair-2.ensures.made,
       c.in_ok-left-in-Pair.ensures.kept,
       c.in_ok-left-in-Pair.ensures.made,
       c.get-in-Pair.ensures,

@@ -1,5 +1,6 @@
 -- At each exit: the only formula, or where no formula goes on.
 use Rattle.std.proofs.Common.{rules, ◌∷◌, ◌++◌, [], refl, sym, ap, ◌∙◌, Some}
+use Rattle.std.proofs.Math.Path.{ap₂}
 use Rattle.trio_text.specs.declared.token.Symbol.TheVariants as signs
 use Rattle.trio_syntax.specs.declared.tree.FormulaTree.TheVariants as formulas
 use Rattle.trio_syntax.specs.Forms.{row, formula, disj, conj, unary, primary, term, many, seq}
@@ -7,7 +8,7 @@ use Rattle.trio_syntax.specs.Grammar.{a, a_sign, a_name, behind_sign, before_sig
 use Rattle.trio_syntax.specs.Forms.{arrow, either}
 use Rattle.trio_syntax.proofs.Left.{left_left, left_read, left_stuck, left_row, left_right, left_first, left_seq, seq_stuck, reads_one, reads_empty, fronts_taken}
 use Rattle.trio_syntax.proofs.Filled.{fill}
-use Rattle.trio_syntax.proofs.Exits.{passed_on, handed_on, reads_as}
+use Rattle.trio_syntax.proofs.Exits.{passed_on, handed_on, handed_as, made_beside, reads_as}
 use Rattle.trio_syntax.proofs.Loops.{loop_end, loop_more, loop_stuck, loop_as, first_part, reads_less, some_less, takes_less, stays_same, left_less}
 use Rattle.trio_syntax.proofs.parser.Parser.+formula.Goals as goal
 
@@ -37,14 +38,9 @@ formula_until-returns-in_err-inner t c =
     passed_on (before_sign (row formula) c.args.close) (row formula) _ _ _ _ _ c.from_residual.ensures.1 c.in_err-inner.ensures
     (λ stuck. seq_stuck (fill (a_sign c.args.close)) c.requires stuck)
 
-pub formula_until-returns-in_err-sign : goal.formula_until-returns-in_err-sign
-formula_until-returns-in_err-sign t c =
-    passed_on (before_sign (row formula) c.args.close) (a_sign c.args.close) _ _ _ _ _ c.from_residual-in_err-sign.ensures.1 c.in_err-sign.ensures
-    (λ stuck. left_stuck (left_seq c.requires c.in_ok-inner.ensures) stuck)
-
 pub formula_until-returns : goal.formula_until-returns
 formula_until-returns t c =
-    left_read (left_seq c.requires c.in_ok-inner.ensures) c.in_ok-sign.ensures
+    handed_as _ c.sign.result (left_seq c.requires c.in_ok-inner.ensures) c.sign.ensures c.followed.ensures
 
 -- bound
 
@@ -92,19 +88,9 @@ distant-returns-in_err-part t c =
     passed_on distant (before_sign (row formula) signs.Comma) _ _ _ _ _ c.from_residual-in_err-part.ensures.1 c.in_err-part.ensures
     (λ stuck. left_stuck (left_seq refl c.in_ok-sign.ensures) (seq_stuck (fill (before_sign (row term) signs.RightRound)) refl stuck))
 
-pub distant-returns-in_err-distance : goal.distant-returns-in_err-distance
-distant-returns-in_err-distance t c =
-    passed_on distant (row term) _ _ _ _ _ c.from_residual-in_err-distance.ensures.1 c.in_err-distance.ensures
-    (λ stuck. left_stuck (left_seq refl c.in_ok-sign.ensures) (left_stuck (left_seq refl c.in_ok-part.ensures) (seq_stuck (fill (a_sign signs.RightRound)) refl stuck)))
-
-pub distant-returns-in_err-sign-2 : goal.distant-returns-in_err-sign-2
-distant-returns-in_err-sign-2 t c =
-    passed_on distant (a_sign signs.RightRound) _ _ _ _ _ c.from_residual-in_err-sign-2.ensures.1 c.in_err-sign-2.ensures
-    (λ stuck. left_stuck (left_seq refl c.in_ok-sign.ensures) (left_stuck (left_seq refl c.in_ok-part.ensures) (left_stuck (left_seq refl c.in_ok-distance.ensures) (stuck))))
-
 pub distant-returns : goal.distant-returns
 distant-returns t c =
-    left_read (left_seq refl c.in_ok-sign.ensures) (left_read (left_seq refl c.in_ok-part.ensures) (left_read (left_seq refl c.in_ok-distance.ensures) (c.in_ok-sign-2.ensures)))
+    handed_as _ c.term_until.result (left_left (left_seq refl c.in_ok-sign.ensures) (left_seq refl c.in_ok-part.ensures)) c.term_until.ensures c.beside.ensures
 
 -- paired
 
@@ -126,14 +112,9 @@ pub paired-formula_until-requires-2 : goal.paired-formula_until-requires-2
 paired-formula_until-requires-2 t c =
     search (rules, some_less refl c.in_ok-sign.ensures, reads_less c.in_ok-left.ensures)
 
-pub paired-returns-in_err-right : goal.paired-returns-in_err-right
-paired-returns-in_err-right t c =
-    passed_on paired (before_sign (row formula) signs.RightRound) _ _ _ _ _ c.from_residual-in_err-right.ensures.1 c.in_err-right.ensures
-    (λ stuck. left_stuck (left_seq refl c.in_ok-sign.ensures) (left_stuck (left_seq refl c.in_ok-left.ensures) (stuck)))
-
 pub paired-returns : goal.paired-returns
 paired-returns t c =
-    left_read (left_seq refl c.in_ok-sign.ensures) (left_read (left_seq refl c.in_ok-left.ensures) (c.in_ok-right.ensures))
+    handed_as _ c.formula_until-2.result (left_left (left_seq refl c.in_ok-sign.ensures) (left_seq refl c.in_ok-left.ensures)) c.formula_until-2.ensures c.beside.ensures
 
 -- conj
 
@@ -325,7 +306,8 @@ operation-returns-in_err-part-3 t c =
 
 pub operation-returns-in-Some-takes_far_operator : goal.operation-returns-in-Some-takes_far_operator
 operation-returns-in-Some-takes_far_operator t c =
-    reads_as (ap (λ f. formulas.Far c.in-Some-takes_far_operator.op f c.in_ok-part-3.distance) c.in_ok-part-4.ensures) (left_read (left_right refl c.in_default.ensures) (left_read (left_first refl (fronts_taken c.in-Some-takes_far_operator.ensures)) (left_read (left_seq refl (reads_one c.in-Some-takes_far_operator.ensures)) (c.in_ok-part-3.ensures))))
+    let far = made_beside c.new-in-Some-takes_far_operator.result c.new-in-Some-takes_far_operator.ensures (sym c.beside.ensures ∙ c.in_ok-distance.was) in
+    reads_as (ap₂ (λ distance part. formulas.Far c.in-Some-takes_far_operator.op part distance) far.0 far.1) (left_read (left_right refl c.in_default.ensures) (left_read (left_first refl (fronts_taken c.in-Some-takes_far_operator.ensures)) (left_read (left_seq refl (reads_one c.in-Some-takes_far_operator.ensures)) (c.in_ok-part-3.ensures))))
 
 pub operation-pair_or_atom-requires : goal.operation-pair_or_atom-requires
 operation-pair_or_atom-requires t c =
@@ -352,4 +334,6 @@ pair_or_atom-returns-in_err-left t c =
 
 pub pair_or_atom-returns : goal.pair_or_atom-returns
 pair_or_atom-returns t c =
-    reads_as (ap (λ f. formulas.Pair c.in-Some.op f c.in_ok-right.right) c.in_ok-left-2.ensures ∙ ap (formulas.Pair c.in-Some.op c.in_ok-left.left) c.in_ok-right.ensures) (left_read (left_first refl (fronts_taken c.in-Some.ensures)) (left_read (left_seq refl (reads_one c.in-Some.ensures)) (c.in_ok-left.ensures)))
+    let first = made_beside c.new.result c.new.ensures (sym c.beside.ensures ∙ c.in_ok-right.was) in
+    let second = made_beside c.new-2.result c.new-2.ensures (sym c.beside-2.ensures ∙ c.in_ok-left-2.was) in
+    reads_as (ap₂ (λ left right. formulas.Pair c.in-Some.op left right) (second.0 ∙ first.1) (second.1 ∙ first.0)) (left_read (left_first refl (fronts_taken c.in-Some.ensures)) (left_read (left_seq refl (reads_one c.in-Some.ensures)) (c.in_ok-left.ensures)))

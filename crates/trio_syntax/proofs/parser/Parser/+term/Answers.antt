@@ -3,10 +3,10 @@ use Rattle.std.proofs.Common.{rules, [], ◌∷◌, ◌++◌, refl, sym, ap, ◌
 use Rattle.trio_text.specs.declared.token.Symbol.TheVariants as signs
 use Rattle.trio_syntax.specs.declared.tree.PartTree.{PartTree}
 use Rattle.trio_syntax.specs.Forms.{row, term, summand, factor, basic, many}
-use Rattle.trio_syntax.specs.Grammar.{a_sign, a_name, behind_sign, listed, arguments, more_summands, sum, product, named}
+use Rattle.trio_syntax.specs.Grammar.{a_sign, a_name, behind_sign, before_sign, listed, arguments, more_summands, sum, product, named}
 use Rattle.trio_syntax.proofs.Left.{left_left, left_read, left_stuck, left_row, left_right, left_first, left_seq, seq_stuck, reads_one, reads_empty, fronts_taken}
 use Rattle.trio_syntax.proofs.Filled.{fill}
-use Rattle.trio_syntax.proofs.Exits.{passed_on, handed_on, reads_as, reads_signed}
+use Rattle.trio_syntax.proofs.Exits.{passed_on, handed_on, handed_as, reads_as, reads_signed}
 use Rattle.trio_syntax.proofs.Loops.{loop_end, loop_more, loop_stuck, reads_less, some_less, takes_less, stays_same, stays_at_place, left_less, loop_as, first_part}
 use Rattle.trio_syntax.proofs.parser.Parser.+term.Goals as goal
 
@@ -40,26 +40,20 @@ arguments-returns t c =
 pub basic-returns-in-Some : goal.basic-returns-in-Some
 basic-returns-in-Some t c = left_read (left_row basic) (left_read (left_first refl (fronts_taken c.in-Some.ensures)) (reads_one c.in-Some.ensures))
 
-pub basic-term-requires : goal.basic-term-requires
-basic-term-requires t c = search (rules, takes_less c.if-takes_sign.ensures.taken, stays_same c.in_default.ensures)
+pub basic-term_until-requires : goal.basic-term_until-requires
+basic-term_until-requires t c = search (rules, takes_less c.if-takes_sign.ensures.taken, stays_same c.in_default.ensures)
 
 pub basic-returns-in_err-inner : goal.basic-returns-in_err-inner
 basic-returns-in_err-inner t c =
-    passed_on (row basic) (row term) _ _ _ _ _ c.from_residual.ensures.1 c.in_err-inner.ensures
+    passed_on (row basic) (before_sign (row term) signs.RightSquare) _ _ _ _ _ c.from_residual.ensures.1 c.in_err-inner.ensures
     (λ stuck. left_stuck (left_row basic) (left_stuck (left_right refl c.in_default.ensures) (left_stuck (left_first refl (fronts_taken c.if-takes_sign.ensures.taken))
-    (left_stuck (left_seq refl (reads_one c.if-takes_sign.ensures.taken)) (seq_stuck (fill (a_sign signs.RightSquare)) refl stuck)))))
-
-pub basic-returns-in_err-sign : goal.basic-returns-in_err-sign
-basic-returns-in_err-sign t c =
-    passed_on (row basic) (a_sign signs.RightSquare) _ _ _ _ _ c.from_residual-in_err-sign.ensures.1 c.in_err-sign.ensures
-    (λ stuck. left_stuck (left_row basic) (left_stuck (left_right refl c.in_default.ensures) (left_stuck (left_first refl (fronts_taken c.if-takes_sign.ensures.taken))
-    (left_stuck (left_seq refl (reads_one c.if-takes_sign.ensures.taken)) (left_stuck (left_seq refl c.in_ok-inner.ensures) stuck)))))
+    (left_stuck (left_seq refl (reads_one c.if-takes_sign.ensures.taken)) stuck))))
 
 pub basic-returns-then-takes_sign : goal.basic-returns-then-takes_sign
 basic-returns-then-takes_sign t c =
     reads_as (ap (λ p. record { place = p; shape = c.in_ok-inner.inner.shape }) (sym (stays_at_place c.in_default.ensures)))
     (left_read (left_row basic) (left_read (left_right refl c.in_default.ensures) (left_read (left_first refl (fronts_taken c.if-takes_sign.ensures.taken))
-    (left_read (left_seq refl (reads_one c.if-takes_sign.ensures.taken)) (left_read (left_seq refl c.in_ok-inner.ensures) c.in_ok-sign.ensures)))))
+    (left_read (left_seq refl (reads_one c.if-takes_sign.ensures.taken)) c.in_ok-inner.ensures))))
 
 pub basic-returns-in_err-name : goal.basic-returns-in_err-name
 basic-returns-in_err-name t c =
@@ -78,6 +72,19 @@ pub basic-returns : goal.basic-returns
 basic-returns t c =
     reads_as (c.named.ensures ∙ ap (λ p. named p c.in_ok-name.name c.in_ok-arguments.arguments) (sym (stays_at_place c.if-takes_sign.ensures.left ∙ stays_at_place c.in_default.ensures)))
     (left_read (left_row basic) (left_read (left_right refl c.in_default.ensures) (left_read (left_right refl c.if-takes_sign.ensures.left) (left_read (left_seq refl c.in_ok-name.ensures) c.in_ok-arguments.ensures))))
+
+-- term_until
+
+pub term_until-term-requires : goal.term_until-term-requires
+term_until-term-requires t c = search rules
+
+pub term_until-returns-in_err-inner : goal.term_until-returns-in_err-inner
+term_until-returns-in_err-inner t c =
+    passed_on (before_sign (row term) c.args.close) (row term) _ _ _ _ _ c.from_residual.ensures.1 c.in_err-inner.ensures
+    (λ stuck. seq_stuck (fill (a_sign c.args.close)) c.requires stuck)
+
+pub term_until-returns : goal.term_until-returns
+term_until-returns t c = handed_as _ c.sign.result (left_seq c.requires c.in_ok-inner.ensures) c.sign.ensures c.followed.ensures
 
 -- factor
 

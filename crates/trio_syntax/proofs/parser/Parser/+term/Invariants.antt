@@ -24,6 +24,9 @@ decreases-summand l = 4 * length l.self.now.rest.now + 1
 abbrev pub decreases-term : goal.decreases-term
 decreases-term l = 4 * length l.self.now.rest.now + 2
 
+abbrev pub decreases-term_until : goal.decreases-term_until
+decreases-term_until l = 4 * length l.self.now.rest.now + 3
+
 abbrev pub decreases-terms : goal.decreases-terms
 decreases-terms l = 4 * length l.self.now.rest.now + 3
 

@@ -1,7 +1,7 @@
 //! Texts with their tokens, faults and lexemes.
 
-use crate::{LexFault, lexemes, tokens};
 use std::alloc::{AllocError, Global};
+use trio_text::{LexFault, lexemes, tokens};
 
 /// Each token of a text with its place and line, or the fault.
 fn shown(alloc: Global, text: &[u8]) -> Result<String, AllocError> {
