@@ -51,12 +51,17 @@ fn advance<'p, L: Ledger>(
     match step(alloc, problem, branch, steps) {
         Ok(Stepped::Closed(_)) => Ok(()),
         Ok(Stepped::Whole(leaf)) => add(found, leaf.into_parts().table),
-        Ok(Stepped::Two(_, left, right)) => {
-            add(given, right)?;
-            add(given, left)
-        }
+        Ok(Stepped::Two(_, left, right)) => add_both(given, right, left),
         Err((_, refused)) => Err(refused),
     }
+}
+
+/// Appends two values; only want of memory refuses it.
+fn add_both<T: Drop>(list: &mut List<T>, first: T, second: T) -> Result<(), AllocError>
+    ensures { OnOk result (list.new ≡ (list.old ++ first ∷ []) ++ second ∷ []) }
+{
+    add(list, first)?;
+    add(list, second)
 }
 
 /// Appends a value; only want of memory refuses it.

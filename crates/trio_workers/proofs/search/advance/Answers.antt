@@ -1,5 +1,5 @@
 -- The answers to the goals of `advance`.
-use Rattle.std.proofs.Common.{◌≡◌, ◌∙◌, ◌∷◌, [], sym, ap, subst}
+use Rattle.std.proofs.Common.{◌≡◌, ◌∙◌, ◌∷◌, ◌++◌, [], refl, sym, ap, subst}
 use Rattle.std.proofs.lemmas.List.{append-nil}
 use Rattle.std.proofs.lemmas.Result.{on_ok_weaker}
 use Rattle.branch_state.specs.Branches.{reps}
@@ -37,6 +37,6 @@ returns-in-Ok-Two-clause-advanced g c =
     let right = c.in-Ok-Two.right in
     let rule : Two left right ≡ ruled p b = subst (λ s. answer s ≡ ruled p b) c.in-Ok-Two.field-0-is c.in-Ok-Two.ensures.rule in
     let halves : AreHalves p b left right = subst (KeepsLaw p b) (sym rule) (c.rule_keeps_the_law.ensures.keeps p c.core-posed.ensures.posed b c.requires) in
-    on_ok_weaker c.add-in-Ok-Two-2.result
-    (λ made. advanced_parted p b left right c.args.found.now c.args.given.now c.add-in-Ok-Two.new.list c.add-in-Ok-Two-2.new.list halves c.in_ok-add-in-Ok-Two.ensures made)
-    c.add-in-Ok-Two-2.ensures
+    on_ok_weaker c.add_both.result
+    (λ made. advanced_parted p b left right c.args.found.now c.args.given.now (c.args.given.now ++ right ∷ []) c.add_both.new.list halves refl made)
+    c.add_both.ensures
