@@ -1,7 +1,7 @@
 //! Why a branch is closed.
 
 /// Why a branch is closed.
-#[derive(Clone, Copy, Debug, PartialEq, Eq)]
+#[derive(Clone, Copy)]
 pub enum Why {
     /// The specification is false under its sets.
     False,

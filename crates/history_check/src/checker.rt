@@ -13,7 +13,7 @@ use std::alloc::{AllocError, Global};
 use trio_types::{Axiom, Spec};
 
 /// What a table makes of a specification.
-#[derive(Clone, Copy, Debug, PartialEq, Eq)]
+#[derive(Clone, Copy, PartialEq, Eq)]
 pub enum Verdict {
     /// Every axiom is true at each of its instants.
     True,

@@ -3,7 +3,7 @@ use std::alloc::AllocError;
 use thiserror::Error;
 
 /// Why a text is no history of a specification. Bytes count from 0, lines and columns from 1, rows from 0 by items and tuples of arguments.
-#[derive(Clone, Copy, Debug, PartialEq, Eq, Error)]
+#[derive(Clone, Copy, Debug, Error)]
 pub enum HistFault {
     /// The first byte outside blanks and comments that begins no token; looked for in the whole text first.
     #[error("byte {0} begins no token")]

@@ -8,7 +8,7 @@ use std::marker::Model;
 use trio_base::List;
 
 /// The value index of each cell as far as it is known, in the order of the cells' numbers.
-#[derive(Debug, Drop)]
+#[derive(Drop)]
 pub struct Given {
     indexes: List<Option<u16>>,
 }

@@ -6,7 +6,7 @@ use std::marker::Model;
 use trio_base::List;
 
 /// A value index for each cell, in the order of the cells' numbers.
-#[derive(Debug, Drop)]
+#[derive(Drop)]
 pub struct Table {
     indexes: List<u16>,
 }

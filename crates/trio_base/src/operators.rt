@@ -1,7 +1,7 @@
 //! The relations and operators of formulas: words of texts stand for them, and formulas hold them.
 
 /// A relation between two terms.
-#[derive(Clone, Copy, Debug, PartialEq, Eq)]
+#[derive(Clone, Copy, PartialEq, Eq)]
 pub enum Rel {
     Eq,
     Ne,
@@ -12,7 +12,7 @@ pub enum Rel {
 }
 
 /// An operator on one formula: at every instant, at some instant, or at those after or before now alone.
-#[derive(Clone, Copy, Debug, PartialEq, Eq)]
+#[derive(Clone, Copy, PartialEq, Eq)]
 pub enum OneOp {
     Alw,
     AlwF,
@@ -23,7 +23,7 @@ pub enum OneOp {
 }
 
 /// Which ends a ranged operator includes: the first letter is for now, the second for the instant at the distance; `i` includes it.
-#[derive(Clone, Copy, Debug, PartialEq, Eq)]
+#[derive(Clone, Copy, PartialEq, Eq)]
 pub enum Ends {
     /// Neither end: no suffix.
     Bare,
@@ -33,7 +33,7 @@ pub enum Ends {
 }
 
 /// An operator on a formula and a distance.
-#[derive(Clone, Copy, Debug, PartialEq, Eq)]
+#[derive(Clone, Copy, PartialEq, Eq)]
 pub enum FarOp {
     /// The formula holds at the instant that far away, forward for a positive distance and back for a negative one.
     Dist,
@@ -48,7 +48,7 @@ pub enum FarOp {
 }
 
 /// An operator on two formulas.
-#[derive(Clone, Copy, Debug, PartialEq, Eq)]
+#[derive(Clone, Copy, PartialEq, Eq)]
 pub enum PairOp {
     Until,
     Since,

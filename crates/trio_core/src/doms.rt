@@ -6,7 +6,7 @@ use std::marker::Model;
 use trio_base::List;
 
 /// A set of value indexes for each cell, in the order of the cells' numbers: bit v of a word says that index v is in the set.
-#[derive(Debug, Drop)]
+#[derive(Drop)]
 pub struct Doms {
     words: List<u64>,
 }

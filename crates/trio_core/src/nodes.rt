@@ -24,7 +24,7 @@ pub enum Node {
 pub type Nodes = List<Node>;
 
 /// A node that has to hold, at every instant or at one.
-#[derive(Clone, Copy, Debug, PartialEq, Eq)]
+#[derive(Clone, Copy)]
 pub struct Root {
     pub node: u32,
     /// The one instant, where there is one.
@@ -53,7 +53,7 @@ pub enum Three {
 }
 
 /// What is known of a value.
-#[derive(Clone, Copy, Debug, PartialEq, Eq)]
+#[derive(Clone, Copy)]
 pub enum Known<T> {
     /// There is none.
     Nothing,

@@ -5,98 +5,100 @@ mod outside;
 mod whole;
 
 use super::*;
-use std::alloc::{AllocError, Global};
 use std::process::Abort;
-use std::test::Fail;
 use trio_io::{Counts, Files, MemShelf, MemSink, Shelf};
 
 /// The words of a line, split at blanks; `_` stands for an empty word.
-fn words_in(alloc: Global, line: &str) -> Result<Vec<String>, AllocError> {
-    let mut words = Vec::new(alloc);
+fn words_in(rt: &(impl Abort + AllocGlobal), line: &str) -> Vec<String> {
+    let mut words = Vec::new(rt.alloc());
     for word in line.split_whitespace() {
-        words.push(String::from_str(alloc, if word == "_" { "" } else { word })?)?;
+        let word = String::from_str(rt.alloc(), if word == "_" { "" } else { word });
+        words.push(word.expect(rt, "memory")).expect(rt, "memory");
     }
-    Ok(words)
+    words
 }
 
 /// What is said of a line of words over this shelf into this sink, behind the status.
 fn told<F: Shelf>(
-    alloc: Global,
+    rt: &(impl Abort + AllocGlobal),
     line: &str,
     shelf: &mut F,
     mut out: MemSink,
-) -> Result<Vec<u8>, AllocError> {
-    let words = words_in(alloc, line)?;
-    let status = explained(alloc, words.as_slice(), shelf, &mut out).number();
-    let mut text = format!(in alloc; "{status} ")?.into_bytes();
-    text.extend_from_slice(out.written())?;
-    Ok(text)
+) -> Vec<u8> {
+    let words = words_in(rt, line);
+    let status = explained(rt.alloc(), words.as_slice(), shelf, &mut out).number();
+    let text = format!(in rt.alloc(); "{status} ").expect(rt, "memory");
+    let mut text = text.into_bytes();
+    text.extend_from_slice(out.written()).expect(rt, "memory");
+    text
 }
 
 /// A sink with ample room.
-fn ample(alloc: Global) -> Result<MemSink, AllocError> {
-    MemSink::new(alloc, 65536, 65536, Counts::new(alloc))
+fn ample(rt: &(impl Abort + AllocGlobal)) -> MemSink {
+    MemSink::new(rt.alloc(), 65536, 65536, Counts::new(rt.alloc())).expect(rt, "memory")
 }
 
-/// What is said of a line of words over these files, behind the status.
-fn answered(alloc: Global, line: &str, files: Files) -> Result<Vec<u8>, AllocError> {
-    let mut shelf = MemShelf::new(alloc, files, Counts::new(alloc))?;
-    told(alloc, line, &mut shelf, ample(alloc)?)
+/// What is said of a line of words over these files, of which this fetch fails, behind the status.
+fn answered(rt: &(impl Abort + AllocGlobal), line: &str, files: Files, failing: &[u64]) -> Vec<u8> {
+    let failing = Counts::from_slice(rt.alloc(), failing).expect(rt, "memory");
+    let mut shelf = MemShelf::new(rt.alloc(), files, failing).expect(rt, "memory");
+    told(rt, line, &mut shelf, ample(rt))
+}
+
+/// Files of these names and texts.
+fn files_of(rt: &(impl Abort + AllocGlobal), rows: &[(&str, &str)]) -> Files {
+    let mut files = Files::new(rt.alloc());
+    for (name, text) in rows {
+        files.push(name, text.as_bytes()).expect(rt, "memory");
+    }
+    files
 }
 
 /// What is said of a specification in the file `s` and a history in the file `h`, behind the status.
-fn said(alloc: Global, spec: &str, history: &str) -> Result<Vec<u8>, AllocError> {
-    let mut files = Files::new(alloc);
-    files.push("s", spec.as_bytes())?;
-    files.push("h", history.as_bytes())?;
-    answered(alloc, "check s h", files)
+fn said(rt: &(impl Abort + AllocGlobal), spec: &str, history: &str) -> Vec<u8> {
+    let files = files_of(rt, &[("s", spec), ("h", history)]);
+    answered(rt, "check s h", files, &[])
 }
 
 /// A specification, a refused one, and histories with two, one and no unknown values, a wrong value and no row.
-fn few_files(alloc: Global) -> Result<Files, AllocError> {
-    let mut files = Files::new(alloc);
-    files.push("spec", b"time 3; item p : bool;")?;
-    files.push("broken", b"time 3; item p bool;")?;
-    files.push("two", b"p: ? 1 ?")?;
-    files.push("one", b"p: 0 ? 1")?;
-    files.push("known", b"p: 0 1 0")?;
-    files.push("wrong", b"p: 0 2 1")?;
-    files.push("empty", b"")?;
-    Ok(files)
+const FEW_FILES: [(&str, &str); 7] = [
+    ("spec", "time 3; item p : bool;"),
+    ("broken", "time 3; item p bool;"),
+    ("two", "p: ? 1 ?"),
+    ("one", "p: 0 ? 1"),
+    ("known", "p: 0 1 0"),
+    ("wrong", "p: 0 2 1"),
+    ("empty", ""),
+];
+
+fn few_files(rt: &(impl Abort + AllocGlobal)) -> Files {
+    files_of(rt, &FEW_FILES)
 }
 
 /// Asserts that what is said begins with these words.
-fn begins(
-    rt: &(impl Abort + AllocGlobal),
-    spec: &str,
-    history: &str,
-    want: &str,
-) -> Result<(), Fail> {
-    let text = said(rt.alloc(), spec, history)?;
+fn begins(rt: &(impl Abort + AllocGlobal), spec: &str, history: &str, want: &str) {
+    let text = said(rt, spec, history);
     let front = text.as_slice().split_at(want.len().min(text.len())).0;
     assert_eq!(rt; front, want.as_bytes(), "{spec}");
-    Ok(())
 }
 
 /// Asserts the place and the sentence for each text of a specification.
-fn specs_are_refused(rt: &(impl Abort + AllocGlobal), rows: &[(&str, &str)]) -> Result<(), Fail> {
+fn specs_are_refused(rt: &(impl Abort + AllocGlobal), rows: &[(&str, &str)]) {
     for row in rows {
-        let want = format!(in rt.alloc(); "4 s:{}", row.1)?;
-        begins(rt, row.0, "", want.as_str())?;
+        let want = format!(in rt.alloc(); "4 s:{}", row.1).expect(rt, "memory");
+        begins(rt, row.0, "", want.as_str());
     }
-    Ok(())
 }
 
-/// Asserts all that is said.
-fn is_said(
-    rt: &(impl Abort + AllocGlobal),
-    spec: &str,
-    history: &str,
-    want: &str,
-) -> Result<(), Fail> {
-    let text = said(rt.alloc(), spec, history)?;
-    assert_eq!(rt; text.as_slice(), want.as_bytes(), "{spec}");
-    Ok(())
+/// Asserts all that is said of a specification and a history.
+fn is_said(rt: &(impl Abort + AllocGlobal), spec: &str, history: &str, want: &str) {
+    let text = said(rt, spec, history);
+    is_text(rt, text.as_slice(), want, spec);
+}
+
+/// Asserts that a text is the one of a row.
+fn is_text(rt: &impl Abort, text: &[u8], want: &str, row: &str) {
+    assert_eq!(rt; text, want.as_bytes(), "{row}");
 }
 
 /// Specifications that are refused early, with the place and the beginning of the sentence.
@@ -144,8 +146,8 @@ const LEXICAL_AND_EARLY: [(&str, &str); 13] = [
 ];
 
 #[test]
-fn lexical_and_early_faults(rt: HostRuntime) -> Result<(), Fail> {
-    specs_are_refused(&rt, &LEXICAL_AND_EARLY)
+fn lexical_and_early_faults(rt: HostRuntime) {
+    specs_are_refused(&rt, &LEXICAL_AND_EARLY);
 }
 
 /// Specifications with a fault of names or kinds.
@@ -199,8 +201,8 @@ const NAMES_AND_KINDS: [(&str, &str); 13] = [
 ];
 
 #[test]
-fn faults_of_names_and_kinds(rt: HostRuntime) -> Result<(), Fail> {
-    specs_are_refused(&rt, &NAMES_AND_KINDS)
+fn faults_of_names_and_kinds(rt: HostRuntime) {
+    specs_are_refused(&rt, &NAMES_AND_KINDS);
 }
 
 /// Specifications with a fault of arguments, of terms, or of a range.
@@ -268,8 +270,8 @@ const TERMS_AND_RANGES: [(&str, &str); 15] = [
 ];
 
 #[test]
-fn faults_of_terms_and_ranges(rt: HostRuntime) -> Result<(), Fail> {
-    specs_are_refused(&rt, &TERMS_AND_RANGES)
+fn faults_of_terms_and_ranges(rt: HostRuntime) {
+    specs_are_refused(&rt, &TERMS_AND_RANGES);
 }
 
 /// Histories of one item over three instants, with what is said of them.
@@ -316,112 +318,119 @@ const HISTORIES: [(&str, &str); 15] = [
 ];
 
 #[test]
-fn faults_of_histories(rt: HostRuntime) -> Result<(), Fail> {
+fn faults_of_histories(rt: HostRuntime) {
     for row in &HISTORIES {
-        let want = format!(in rt.alloc(); "4 {}", row.1)?;
-        begins(&rt, "time 3; item p : bool;", row.0, want.as_str())?;
+        let want = format!(in rt.alloc(); "4 {}", row.1).expect(&rt, "memory");
+        begins(&rt, "time 3; item p : bool;", row.0, want.as_str());
     }
-    Ok(())
 }
 
 #[test]
-fn whole_answers(rt: HostRuntime) -> Result<(), Fail> {
+fn whole_answers(rt: HostRuntime) {
     is_said(
         &rt,
         "time 3;\n\taxiom A : q;\r\n",
         "",
         "4 s:2:12: `q` is not declared before this place\n\taxiom A : q;\n\t          ^\n",
-    )?;
-    is_said(&rt, "time 3; axiom A : true;", "", "0 s is true in h\n")?;
+    );
+    is_said(&rt, "time 3; axiom A : true;", "", "0 s is true in h\n");
     is_said(
         &rt,
         "time 3; item p : bool; item q : bool; axiom A : q;",
         "q: 1 0 1\np: 1 1 0\n",
         "1 s:1:45: axiom `A` is false at instant 1\ntime 3; item p : bool; item q : bool; axiom A : q;\n                                            ^\n\n   0 1 2\n     v\nq ##__##\nitems that it does not read:\np ####__\n",
-    )?;
+    );
     is_said(
         &rt,
         "time 2; domain d = -1..2; domain m = {red, green}; item x(m) : d; item y : m; axiom A : y = red & x(red) < 2;",
         "y: red green\nx(red): -1 2\nx(green): 0 0\n",
         "1 s:1:85: axiom `A` is false at instant 1\n; domain m = {red, green}; item x(m) : d; item y : m; axiom A : y = red & x(red) < 2;\n                                                            ^\n\n              0     1\n                    v\nx(red)       -1     2\nx(green)      0     0\ny           red green\n",
-    )?;
+    );
     is_said(
         &rt,
         "time 200; item p : bool; axiom A : !p;",
         "p: 0 0 0 0 0 0 0 0 0 0 0 0 0 0 0 0 0 0 0 0 0 0 0 0 0 0 0 0 0 0 0 0 0 0 0 0 0 0 0 0 0 0 0 0 0 0 0 0 0 0 0 0 0 0 0 0 0 0 0 0 0 0 0 0 0 0 0 0 0 0 0 0 0 0 0 0 0 0 0 0 0 0 0 0 0 0 0 0 0 0 0 0 0 0 0 0 0 0 0 0 0 0 0 0 0 0 0 0 0 0 0 0 0 0 0 0 0 0 0 0 0 0 0 0 0 0 0 0 0 0 0 0 0 0 0 0 0 0 0 0 0 0 0 0 0 0 0 0 0 0 1 0 0 0 0 0 0 0 0 0 0 0 0 0 0 0 0 0 0 0 0 0 0 0 0 0 0 0 0 0 0 0 0 0 0 0 0 0 0 0 0 0 0 0 0 0 0 0 0 0",
         "1 s:1:32: axiom `A` is false at instant 150\ntime 200; item p : bool; axiom A : !p;\n                               ^\n\ninstants 138 to 161 of 200\n   138 139 140 141 142 143 144 145 146 147 148 149 150 151 152 153 154 155 156 157 158 159 160 161\n                                                     v\np ________________________________________________####____________________________________________\n",
-    )?;
+    );
     is_said(
         &rt,
         "time 205; item a : bool; item b : bool; item c : bool; item d : bool; item e : bool;",
         "",
         "4 s: the number of cells, one for each item, tuple of arguments and instant, is 1025, and the limit is 1024\n",
-    )?;
-    Ok(())
+    );
 }
 
 /// Asserts what is said of each line of words over the few files.
-fn are_answered(rt: &(impl Abort + AllocGlobal), rows: &[(&str, &str)]) -> Result<(), Fail> {
+fn are_answered(rt: &(impl Abort + AllocGlobal), rows: &[(&str, &str)]) {
     for row in rows {
-        let text = answered(rt.alloc(), row.0, few_files(rt.alloc())?)?;
-        assert_eq!(rt; text.as_slice(), row.1.as_bytes(), "{}", row.0);
+        let text = answered(rt, row.0, few_files(rt), &[]);
+        is_text(rt, text.as_slice(), row.1, row.0);
     }
-    Ok(())
 }
 
-#[test]
-fn answers_to_refused_files(rt: HostRuntime) -> Result<(), Fail> {
-    let wrong =
-        "4 wrong:1:6: `2` at instant 1 is no value of `p`, whose values are 0, 1, `false` and `true`\np: 0 2 1\n     ^\n";
-    let broken =
-        "4 broken:1:16: the reserved word `bool` cannot stand here\ntime 3; item p bool;\n               ^\n";
-    let absent = "5 absent: there is no such file, or it cannot be read\n";
-    let rows = [
-        ("check spec wrong", wrong),
-        ("complete spec wrong", wrong),
-        ("check broken absent", broken),
-        ("complete broken absent", broken),
-        ("check absent broken", absent),
-        ("complete absent broken", absent),
-        ("complete spec absent", absent),
-        (
-            "complete spec empty",
-            "4 empty: no line is the row of `p`\n",
-        ),
-    ];
-    are_answered(&rt, &rows)
-}
+const WRONG: &str =
+    "4 wrong:1:6: `2` at instant 1 is no value of `p`, whose values are 0, 1, `false` and `true`\np: 0 2 1\n     ^\n";
+
+const BROKEN: &str =
+    "4 broken:1:16: the reserved word `bool` cannot stand here\ntime 3; item p bool;\n               ^\n";
+
+const ABSENT: &str = "5 absent: there is no such file, or it cannot be read\n";
+
+/// Words with files of which one is refused or absent.
+const REFUSED_FILES: [(&str, &str); 8] = [
+    ("check spec wrong", WRONG),
+    ("complete spec wrong", WRONG),
+    ("check broken absent", BROKEN),
+    ("complete broken absent", BROKEN),
+    ("check absent broken", ABSENT),
+    ("complete absent broken", ABSENT),
+    ("complete spec absent", ABSENT),
+    (
+        "complete spec empty",
+        "4 empty: no line is the row of `p`\n",
+    ),
+];
 
 #[test]
-fn answers_to_files_that_read(rt: HostRuntime) -> Result<(), Fail> {
-    let rows = [
-        (
-            "complete spec two",
-            "0 spec and two can be read; 2 of 3 values are not known, and `trio complete` lists the histories that fill them in and satisfy the specification\n",
-        ),
-        (
-            "complete spec one",
-            "0 spec and one can be read; 1 of 3 values is not known, and `trio complete` lists the histories that fill it in and satisfy the specification\n",
-        ),
-        (
-            "complete spec known",
-            "0 spec and known can be read; every value is known, and `trio complete` lists the history if it satisfies the specification\n",
-        ),
-        ("check spec known", "0 spec is true in known\n"),
-    ];
-    are_answered(&rt, &rows)
+fn answers_to_refused_files(rt: HostRuntime) {
+    are_answered(&rt, &REFUSED_FILES);
 }
 
+/// Words with files that can be read.
+const FILES_THAT_READ: [(&str, &str); 4] = [
+    (
+        "complete spec two",
+        "0 spec and two can be read; 2 of 3 values are not known, and `trio complete` lists the histories that fill them in and satisfy the specification\n",
+    ),
+    (
+        "complete spec one",
+        "0 spec and one can be read; 1 of 3 values is not known, and `trio complete` lists the histories that fill it in and satisfy the specification\n",
+    ),
+    (
+        "complete spec known",
+        "0 spec and known can be read; every value is known, and `trio complete` lists the history if it satisfies the specification\n",
+    ),
+    ("check spec known", "0 spec is true in known\n"),
+];
+
 #[test]
-fn answers_to_words_that_are_no_command(rt: HostRuntime) -> Result<(), Fail> {
-    let usage = "2 usage: trio_explain check SPEC HIST | complete SPEC HIST\n";
-    let rows = [
-        ("", usage),
-        ("check spec", usage),
-        ("complete spec", usage),
-        ("complete spec known known", usage),
-        ("complete spec --limit=1", usage),
-        ("completes spec known", usage),
-    ];
-    are_answered(&rt, &rows)
+fn answers_to_files_that_read(rt: HostRuntime) {
+    are_answered(&rt, &FILES_THAT_READ);
+}
+
+const USAGE: &str = "2 usage: trio_explain check SPEC HIST | complete SPEC HIST\n";
+
+/// Words that are no command.
+const NO_COMMANDS: [(&str, &str); 6] = [
+    ("", USAGE),
+    ("check spec", USAGE),
+    ("complete spec", USAGE),
+    ("complete spec known known", USAGE),
+    ("complete spec --limit=1", USAGE),
+    ("completes spec known", USAGE),
+];
+
+#[test]
+fn answers_to_words_that_are_no_command(rt: HostRuntime) {
+    are_answered(&rt, &NO_COMMANDS);
 }

@@ -27,7 +27,7 @@ pub trait Bell {
 }
 
 /// A bell that never rings, and counts nothing.
-#[derive(Debug, Drop)]
+#[derive(Drop)]
 pub struct StillBell {
     seconds: Option<u64>,
 }

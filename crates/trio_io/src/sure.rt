@@ -51,7 +51,7 @@ impl Shelf for SureShelf {
 }
 
 /// Takes every piece whole, and neither keeps nor tells it.
-#[derive(Clone, Copy, Debug)]
+#[derive(Clone, Copy)]
 pub struct SureSink {}
 
 impl SureSink {

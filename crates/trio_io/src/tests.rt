@@ -7,10 +7,21 @@ use crate::{
 };
 use std::alloc::{AllocError, Global};
 use std::cell::Cell;
-use std::fmt::Display;
+use std::fmt::{Debug, Display};
 use std::process::Abort;
 use std::test::Fail;
 use std::{fs, io};
+
+/// Ends the test with both values unless they are equal: an assertion is proved where it stands with all that it prints, and a call costs next
+/// to nothing.
+fn same<T: PartialEq + Debug>(rt: &impl Abort, got: &T, want: &T) {
+    assert_eq!(rt; got, want);
+}
+
+/// Ends the test unless this is true.
+fn holds(rt: &impl Abort, is_true: bool) {
+    assert!(rt; is_true);
+}
 
 fn counts(alloc: Global, numbers: &[u64]) -> Result<Counts, AllocError> {
     Counts::from_slice(alloc, numbers)
@@ -32,12 +43,9 @@ fn fetch_row(
     max: u64,
     answer: Result<(), ShelfFault>,
     held: &[u8],
-) -> Result<(), Fail> {
+) -> Result<(), AllocError> {
     let mut shelf = shelf_of_two(rt.alloc(), failing)?;
-    let mut into = Vec::from_slice(rt.alloc(), b">")?;
-    assert_eq!(rt; shelf.fetch(name, max, &mut into), answer);
-    assert_eq!(rt; into.as_slice(), held);
-    Ok(())
+    file_row(rt, &mut shelf, name, max, answer, held)
 }
 
 #[test]
@@ -47,7 +55,8 @@ fn memory_shelf_fetches(rt: HostRuntime) -> Result<(), Fail> {
     fetch_row(&rt, &[], "b", 0, Ok(()), b">")?;
     fetch_row(&rt, &[], "c", 9, Err(ShelfFault::Failed), b">")?;
     fetch_row(&rt, &[1], "a", 3, Err(ShelfFault::Failed), b">")?;
-    fetch_row(&rt, &[0, 2], "a", 3, Ok(()), b">abc")
+    fetch_row(&rt, &[0, 2], "a", 3, Ok(()), b">abc")?;
+    Ok(())
 }
 
 fn put_row(
@@ -56,12 +65,12 @@ fn put_row(
     name: &str,
     answer: Result<(), ShelfFault>,
     held: &[Option<&[u8]>; 3],
-) -> Result<(), Fail> {
+) -> Result<(), AllocError> {
     let mut shelf = shelf_of_two(rt.alloc(), failing)?;
-    assert_eq!(rt; shelf.put(name, b"new"), answer);
-    assert_eq!(rt; shelf.file("a"), held[0]);
-    assert_eq!(rt; shelf.file("b"), held[1]);
-    assert_eq!(rt; shelf.file("c"), held[2]);
+    same(rt, &shelf.put(name, b"new"), &answer);
+    same(rt, &shelf.file("a"), &held[0]);
+    same(rt, &shelf.file("b"), &held[1]);
+    same(rt, &shelf.file("c"), &held[2]);
     Ok(())
 }
 
@@ -82,7 +91,8 @@ fn memory_shelf_puts(rt: HostRuntime) -> Result<(), Fail> {
         "a",
         Err(ShelfFault::Failed),
         &[Some(b"abc"), Some(b""), None],
-    )
+    )?;
+    Ok(())
 }
 
 /// The counts of a shelf: absences, failed fetches, failed puts and calls.
@@ -95,24 +105,29 @@ fn counted(shelf: &MemShelf) -> (u64, u64, u64, u64) {
     )
 }
 
-#[test]
-fn memory_shelf_counts(rt: HostRuntime) -> Result<(), Fail> {
-    let mut shelf = shelf_of_two(rt.alloc(), &[3, 5])?;
+fn counts_rise(rt: &(impl Abort + AllocGlobal), shelf: &mut MemShelf) -> Result<(), AllocError> {
     let failed = Err(ShelfFault::Failed);
-    file_row(&rt, &mut shelf, "a", 3, Ok(()), b">abc")?;
-    file_row(&rt, &mut shelf, "a", 2, Err(ShelfFault::TooLong), b">")?;
-    assert_eq!(rt; counted(&shelf), (0, 0, 0, 2));
-    file_row(&rt, &mut shelf, "a", 3, failed, b">")?;
-    assert_eq!(rt; counted(&shelf), (0, 1, 0, 3));
-    file_row(&rt, &mut shelf, "c", 3, failed, b">")?;
-    assert_eq!(rt; counted(&shelf), (1, 1, 0, 4));
-    assert_eq!(rt; shelf.put("a", b"new"), failed);
-    assert_eq!(rt; counted(&shelf), (1, 1, 1, 5));
-    assert_eq!(rt; shelf.put("c", b"new"), Ok(()));
-    assert_eq!(rt; counted(&shelf), (1, 1, 1, 6));
+    file_row(rt, shelf, "a", 3, Ok(()), b">abc")?;
+    file_row(rt, shelf, "a", 2, Err(ShelfFault::TooLong), b">")?;
+    same(rt, &counted(shelf), &(0, 0, 0, 2));
+    file_row(rt, shelf, "a", 3, failed, b">")?;
+    same(rt, &counted(shelf), &(0, 1, 0, 3));
+    file_row(rt, shelf, "c", 3, failed, b">")?;
+    same(rt, &counted(shelf), &(1, 1, 0, 4));
+    same(rt, &shelf.put("a", b"new"), &failed);
+    same(rt, &counted(shelf), &(1, 1, 1, 5));
+    same(rt, &shelf.put("c", b"new"), &Ok(()));
+    same(rt, &counted(shelf), &(1, 1, 1, 6));
     Ok(())
 }
 
+#[test]
+fn memory_shelf_counts(rt: HostRuntime) -> Result<(), Fail> {
+    let mut shelf = shelf_of_two(rt.alloc(), &[3, 5])?;
+    Ok(counts_rise(&rt, &mut shelf)?)
+}
+
+/// The answers of a sink: to no bytes, to five bytes written whole, and what it holds then.
 fn sink_row(
     rt: &(impl Abort + AllocGlobal),
     room: u64,
@@ -120,33 +135,37 @@ fn sink_row(
     failing: &[u64],
     answer: Result<(), SinkFault>,
     written: &[u8],
-) -> Result<(), Fail>
+) -> Result<(), AllocError>
     requires { 0 < most }
 {
     let mut sink = MemSink::new(rt.alloc(), room, most, counts(rt.alloc(), failing)?)?;
-    assert_eq!(rt; sink.write(b""), Ok(0));
-    assert_eq!(rt; write_whole(&mut sink, b"abcde"), answer);
-    assert_eq!(rt; sink.written(), written);
+    same(rt, &sink.write(b""), &Ok(0));
+    same(rt, &write_whole(&mut sink, b"abcde"), &answer);
+    same(rt, &sink.written(), &written);
     Ok(())
 }
 
 #[test]
 fn memory_sink_takes_pieces(rt: HostRuntime) -> Result<(), Fail> {
-    sink_row(&rt, 9, 1, &[], Ok(()), b"abcde")?;
-    sink_row(&rt, 5, 2, &[4], Ok(()), b"abcde")?;
-    sink_row(&rt, 9, 9, &[2], Ok(()), b"abcde")?;
-    sink_row(&rt, 4, 3, &[], Err(SinkFault::Failed), b"abcd")?;
-    sink_row(&rt, 0, 1, &[], Err(SinkFault::Failed), b"")?;
-    sink_row(&rt, 9, 2, &[2], Err(SinkFault::Failed), b"ab")?;
-    sink_row(&rt, 9, 9, &[1], Err(SinkFault::Failed), b"")
+    Ok(sinks_take_pieces(&rt)?)
+}
+
+fn sinks_take_pieces(rt: &(impl Abort + AllocGlobal)) -> Result<(), AllocError> {
+    sink_row(rt, 9, 1, &[], Ok(()), b"abcde")?;
+    sink_row(rt, 5, 2, &[4], Ok(()), b"abcde")?;
+    sink_row(rt, 9, 9, &[2], Ok(()), b"abcde")?;
+    sink_row(rt, 4, 3, &[], Err(SinkFault::Failed), b"abcd")?;
+    sink_row(rt, 0, 1, &[], Err(SinkFault::Failed), b"")?;
+    sink_row(rt, 9, 2, &[2], Err(SinkFault::Failed), b"ab")?;
+    sink_row(rt, 9, 9, &[1], Err(SinkFault::Failed), b"")
 }
 
 fn never_rings<B: Bell>(rt: &impl Abort, bell: &mut B)
     requires { B.armed bell.old ≡ None }
 {
-    assert!(rt; !bell.ask());
+    holds(rt, !bell.ask());
     bell.arm(1);
-    assert!(rt; !bell.ask());
+    holds(rt, !bell.ask());
 }
 
 #[test]
@@ -161,10 +180,24 @@ fn file_row<S: Shelf>(
     max: u64,
     answer: Result<(), ShelfFault>,
     held: &[u8],
-) -> Result<(), Fail> {
+) -> Result<(), AllocError> {
     let mut into = Vec::from_slice(rt.alloc(), b">")?;
-    assert_eq!(rt; shelf.fetch(name, max, &mut into), answer);
-    assert_eq!(rt; into.as_slice(), held);
+    same(rt, &shelf.fetch(name, max, &mut into), &answer);
+    same(rt, &into.as_slice(), &held);
+    Ok(())
+}
+
+/// Fetches and puts of a shelf that holds the file a alone.
+fn fetches_and_puts(
+    rt: &(impl Abort + AllocGlobal),
+    shelf: &mut SureShelf,
+) -> Result<(), AllocError> {
+    file_row(rt, shelf, "a", 3, Ok(()), b">abc")?;
+    file_row(rt, shelf, "a", 2, Err(ShelfFault::TooLong), b">")?;
+    file_row(rt, shelf, "b", 3, Err(ShelfFault::Failed), b">")?;
+    same(rt, &shelf.put("b", b"d"), &Ok(()));
+    file_row(rt, shelf, "b", 3, Ok(()), b">d")?;
+    same(rt, &shelf.absences, &1);
     Ok(())
 }
 
@@ -173,47 +206,35 @@ fn sure_shelf_fetches_and_puts(rt: HostRuntime) -> Result<(), Fail> {
     let mut files = Files::new(rt.alloc());
     files.push("a", b"abc")?;
     let mut shelf = SureShelf::new(rt.alloc(), files)?;
-    file_row(&rt, &mut shelf, "a", 3, Ok(()), b">abc")?;
-    file_row(&rt, &mut shelf, "a", 2, Err(ShelfFault::TooLong), b">")?;
-    file_row(&rt, &mut shelf, "b", 3, Err(ShelfFault::Failed), b">")?;
-    assert_eq!(rt; shelf.put("b", b"d"), Ok(()));
-    file_row(&rt, &mut shelf, "b", 3, Ok(()), b">d")?;
-    assert_eq!(rt; shelf.absences, 1);
-    Ok(())
+    Ok(fetches_and_puts(&rt, &mut shelf)?)
 }
 
 #[test]
 fn real_files_are_put_and_fetched(rt: HostRuntime) -> Result<(), Fail> {
     let mut shelf = FileShelf::new(&rt);
-    assert_eq!(rt; shelf.put("trio_io_file", b"longer"), Ok(()));
-    assert_eq!(rt; shelf.put("trio_io_file", b"abc"), Ok(()));
-    file_row(&rt, &mut shelf, "trio_io_file", 3, Ok(()), b">abc")?;
-    file_row(&rt, &mut shelf, "trio_io_file", u64::MAX, Ok(()), b">abc")?;
-    file_row(
-        &rt,
-        &mut shelf,
-        "trio_io_file",
-        2,
-        Err(ShelfFault::TooLong),
-        b">",
-    )?;
-    assert!(rt; fs::remove_file(&rt, "trio_io_file").is_ok());
-    assert_eq!(rt; (shelf.failed_fetches, shelf.failed_puts), (0, 0));
+    let name = "trio_io_file";
+    same(&rt, &shelf.put(name, b"longer"), &Ok(()));
+    same(&rt, &shelf.put(name, b"abc"), &Ok(()));
+    file_row(&rt, &mut shelf, name, 3, Ok(()), b">abc")?;
+    file_row(&rt, &mut shelf, name, u64::MAX, Ok(()), b">abc")?;
+    file_row(&rt, &mut shelf, name, 2, Err(ShelfFault::TooLong), b">")?;
+    holds(&rt, fs::remove_file(&rt, name).is_ok());
+    same(&rt, &(shelf.failed_fetches, shelf.failed_puts), &(0, 0));
     Ok(())
 }
 
 #[test]
 fn real_failures_are_counted(rt: HostRuntime) -> Result<(), Fail> {
     let mut shelf = FileShelf::new(&rt);
-    assert!(rt; fs::create_dir(&rt, "trio_io_folder").is_ok());
+    holds(&rt, fs::create_dir(&rt, "trio_io_folder").is_ok());
     let failed = Err(ShelfFault::Failed);
     file_row(&rt, &mut shelf, "trio_io_folder", 3, failed, b">")?;
-    assert_eq!(rt; shelf.put("trio_io_folder", b"abc"), failed);
-    assert!(rt; fs::remove_dir(&rt, "trio_io_folder").is_ok());
-    assert_eq!(rt; (shelf.failed_fetches, shelf.failed_puts), (1, 1));
+    same(&rt, &shelf.put("trio_io_folder", b"abc"), &failed);
+    holds(&rt, fs::remove_dir(&rt, "trio_io_folder").is_ok());
+    same(&rt, &(shelf.failed_fetches, shelf.failed_puts), &(1, 1));
     file_row(&rt, &mut shelf, "trio_io_none", 3, failed, b">")?;
-    assert_eq!(rt; shelf.put("trio_io_none/a", b"abc"), failed);
-    assert_eq!(rt; (shelf.failed_fetches, shelf.failed_puts), (2, 2));
+    same(&rt, &shelf.put("trio_io_none/a", b"abc"), &failed);
+    same(&rt, &(shelf.failed_fetches, shelf.failed_puts), &(2, 2));
     Ok(())
 }
 
@@ -262,34 +283,43 @@ fn printed(most: usize) -> (Result<(), SinkFault>, u64, u64) {
 
 #[test]
 fn printers_take_pieces(rt: HostRuntime) {
-    assert_eq!(rt; printed(9), (Ok(()), 0x616263, 0));
-    assert_eq!(rt; printed(2), (Ok(()), 0x616263, 0));
-    assert_eq!(rt; printed(1), (Ok(()), 0x616263, 0));
-    assert_eq!(rt; printed(0), (Err(SinkFault::Failed), 0, 1));
+    same(&rt, &printed(9), &(Ok(()), 0x616263, 0));
+    same(&rt, &printed(2), &(Ok(()), 0x616263, 0));
+    same(&rt, &printed(1), &(Ok(()), 0x616263, 0));
+    same(&rt, &printed(0), &(Err(SinkFault::Failed), 0, 1));
 }
 
 #[test]
 fn standard_output_takes_all(rt: HostRuntime) {
     let mut sink = OutSink::new(&rt);
-    assert_eq!(rt; sink.write(b""), Ok(0));
-    assert_eq!(rt; write_whole(&mut sink, b"written\n"), Ok(()));
-    assert_eq!(rt; sink.faults, 0);
+    same(&rt, &sink.write(b""), &Ok(0));
+    same(&rt, &write_whole(&mut sink, b"written\n"), &Ok(()));
+    same(&rt, &sink.faults, &0);
+}
+
+/// The answer to pieces of which the write of this number, from 1, fails, and what is written then.
+fn pieces_row(
+    rt: &(impl Abort + AllocGlobal),
+    failing: u64,
+    answer: Result<(), SinkFault>,
+    written: &str,
+) -> Result<(), AllocError> {
+    let mut sink = MemSink::new(rt.alloc(), 9, 9, counts(rt.alloc(), &[failing])?)?;
+    same(rt, &write_pieces(&mut sink, &["ab", "", "cde"]), &answer);
+    same(rt, &sink.written(), &written.as_bytes());
+    Ok(())
 }
 
 #[test]
 fn pieces_go_out_in_order(rt: HostRuntime) -> Result<(), Fail> {
-    assert_eq!(rt; write_pieces(&mut SureSink::new(), &["a", "b"]), Ok(()));
-    let rows: [(u64, Result<(), SinkFault>, &str); 4] = [
-        (0, Ok(()), "abcde"),
-        (1, Err(SinkFault::Failed), ""),
-        (2, Err(SinkFault::Failed), "ab"),
-        (3, Ok(()), "abcde"),
-    ];
-    for (failing, answer, written) in rows {
-        let failing = counts(rt.alloc(), &[failing])?;
-        let mut sink = MemSink::new(rt.alloc(), 9, 9, failing)?;
-        assert_eq!(rt; write_pieces(&mut sink, &["ab", "", "cde"]), answer);
-        assert_eq!(rt; sink.written(), written.as_bytes());
-    }
+    same(
+        &rt,
+        &write_pieces(&mut SureSink::new(), &["a", "b"]),
+        &Ok(()),
+    );
+    pieces_row(&rt, 0, Ok(()), "abcde")?;
+    pieces_row(&rt, 1, Err(SinkFault::Failed), "")?;
+    pieces_row(&rt, 2, Err(SinkFault::Failed), "ab")?;
+    pieces_row(&rt, 3, Ok(()), "abcde")?;
     Ok(())
 }

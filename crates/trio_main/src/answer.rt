@@ -9,7 +9,7 @@ use std::alloc::{AllocError, Global};
 use trio_io::{Sink, write_pieces};
 
 /// A status, and the text that is written with it in these pieces.
-#[derive(Debug, Drop)]
+#[derive(Drop)]
 pub struct Answer {
     pub status: Status,
     pub pieces: Vec<Vec<u8>>,

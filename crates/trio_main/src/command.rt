@@ -8,7 +8,7 @@ use trio_base::Name;
 use trio_io::is_file_name;
 
 /// What the words ask for.
-#[derive(Debug, Drop)]
+#[derive(Drop)]
 pub enum Command {
     /// Whether a history satisfies a specification: the names of the specification's and the history's file.
     Check(Name, Name),
@@ -17,7 +17,7 @@ pub enum Command {
 }
 
 /// Why words are no command.
-#[derive(Clone, Copy, Debug, PartialEq, Eq)]
+#[derive(Clone, Copy)]
 pub enum WordsFault {
     /// They ask for nothing that there is.
     Usage,

@@ -12,14 +12,14 @@ use trio_reader::SpecFault;
 use trio_types::Spec;
 
 /// A text that a command reads.
-#[derive(Clone, Copy, Debug, PartialEq, Eq)]
+#[derive(Clone, Copy)]
 pub enum Text {
     Spec,
     History,
 }
 
 /// Why a command could not answer. No fault that the readers' refusals become has an inner want of memory, or a missing row without its name.
-#[derive(Debug, Drop)]
+#[derive(Drop)]
 pub enum Fault {
     /// A file is not there, or could not be read.
     Read,

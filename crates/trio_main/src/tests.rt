@@ -22,7 +22,6 @@ use crate::message::say;
 use history_table::HistFault;
 use std::alloc::{AllocError, Global};
 use std::process::Abort;
-use std::test::Fail;
 use trio_base::Name;
 use trio_io::{Counts, Files, MemShelf, MemSink, SureShelf};
 use trio_reader::{SpecFault, Which};
@@ -96,35 +95,32 @@ fn is_due(rt: &(impl Abort + AllocGlobal), answer: &[u8], want: &str, row: &str)
 }
 
 /// Asserts the answer in the last column for the specification and the history in the others.
-fn check_row(rt: &(impl Abort + AllocGlobal), row: &str) -> Result<(), Fail> {
+fn check_row(rt: &(impl Abort + AllocGlobal), row: &str) {
     let (spec, rest) = cut(row);
     let (history, want) = cut(rest);
-    let answer = checked(rt.alloc(), spec.as_bytes(), history.as_bytes())?;
+    let answer = checked(rt.alloc(), spec.as_bytes(), history.as_bytes()).expect(rt, "memory");
     is_due(rt, answer.as_slice(), want, row);
-    Ok(())
 }
 
 /// Asserts each row.
-fn check_all(rt: &(impl Abort + AllocGlobal), rows: &[&str]) -> Result<(), Fail> {
+fn check_all(rt: &(impl Abort + AllocGlobal), rows: &[&str]) {
     for row in rows {
-        check_row(rt, row)?;
+        check_row(rt, row);
     }
-    Ok(())
 }
 
 /// Asserts each row behind what stands before all of them.
-fn check_behind(rt: &(impl Abort + AllocGlobal), before: &str, rows: &[&str]) -> Result<(), Fail> {
+fn check_behind(rt: &(impl Abort + AllocGlobal), before: &str, rows: &[&str]) {
     for row in rows {
-        let row = format!(in rt.alloc(); "{before}{row}")?;
-        check_row(rt, row.as_str())?;
+        let row = format!(in rt.alloc(); "{before}{row}").expect(rt, "memory");
+        check_row(rt, row.as_str());
     }
-    Ok(())
 }
 
 /// Asserts the answer for a specification and an empty history.
-fn answer_is(rt: &(impl Abort + AllocGlobal), spec: &str, want: &str) -> Result<(), Fail> {
-    let row = format!(in rt.alloc(); "{spec} ~  ~ {want}\n")?;
-    check_row(rt, row.as_str())
+fn answer_is(rt: &(impl Abort + AllocGlobal), spec: &str, want: &str) {
+    let row = format!(in rt.alloc(); "{spec} ~  ~ {want}\n").expect(rt, "memory");
+    check_row(rt, row.as_str());
 }
 
 /// A specification, a history, and the answer of `check`.
@@ -146,8 +142,8 @@ const VERDICTS_AND_REFUSALS: [&str; 14] = [
 ];
 
 #[test]
-fn verdicts_and_refusals(rt: HostRuntime) -> Result<(), Fail> {
-    check_all(&rt, &VERDICTS_AND_REFUSALS)
+fn verdicts_and_refusals(rt: HostRuntime) {
+    check_all(&rt, &VERDICTS_AND_REFUSALS);
 }
 
 /// Words that are answered with the usage line.
@@ -178,21 +174,26 @@ const NO_COMMANDS: [&str; 23] = [
 ];
 
 /// Asserts that the words of a line are answered with the usage line, though no file can be fetched.
-fn is_no_command(rt: &(impl Abort + AllocGlobal), line: &str) -> Result<(), Fail> {
+fn is_no_command(rt: &(impl Abort + AllocGlobal), line: &str) {
     let alloc = rt.alloc();
-    let files = two_files(alloc, IMPLIES_NEXT.as_bytes(), b"p: 0 0 0")?;
-    let failing = Counts::from_slice(alloc, &[1, 2, 3])?;
-    let answer = answered(alloc, line, files, failing, ample(alloc)?)?;
+    let files = two_files(alloc, IMPLIES_NEXT.as_bytes(), b"p: 0 0 0").expect(rt, "memory");
+    let failing = Counts::from_slice(alloc, &[1, 2, 3]).expect(rt, "memory");
+    let answer = answered(
+        alloc,
+        line,
+        files,
+        failing,
+        ample(alloc).expect(rt, "memory"),
+    )
+    .expect(rt, "memory");
     is_due(rt, answer.as_slice(), USAGE, line);
-    Ok(())
 }
 
 #[test]
-fn words_that_are_no_command(rt: HostRuntime) -> Result<(), Fail> {
+fn words_that_are_no_command(rt: HostRuntime) {
     for line in &NO_COMMANDS {
-        is_no_command(&rt, line)?;
+        is_no_command(&rt, line);
     }
-    Ok(())
 }
 
 /// The number of the fetch that fails, the words, the names of the files that there are, and the answer.
@@ -213,42 +214,41 @@ const FAILING_FETCHES: [(u64, &str); 13] = [
 ];
 
 /// The files of these names: `s` with a specification, and every other with a history.
-fn files_named(alloc: Global, names: &str) -> Result<Files, AllocError> {
-    let mut files = Files::new(alloc);
+fn files_named(rt: &(impl Abort + AllocGlobal), names: &str) -> Files {
+    let mut files = Files::new(rt.alloc());
     for name in names.split_whitespace() {
         let text = if name == "s" {
             IMPLIES_NEXT
         } else {
             "p: 0 0 0"
         };
-        files.push(name, text.as_bytes())?;
+        files.push(name, text.as_bytes()).expect(rt, "memory");
     }
-    Ok(files)
+    files
 }
 
 /// Asserts the answer where this fetch fails.
-fn fetch_row(rt: &(impl Abort + AllocGlobal), failing: u64, row: &str) -> Result<(), Fail> {
+fn fetch_row(rt: &(impl Abort + AllocGlobal), failing: u64, row: &str) {
     let alloc = rt.alloc();
     let (line, rest) = cut(row);
     let (names, want) = cut(rest);
-    let failing = Counts::from_slice(alloc, &[failing])?;
+    let failing = Counts::from_slice(alloc, &[failing]).expect(rt, "memory");
     let answer = answered(
         alloc,
         line,
-        files_named(alloc, names)?,
+        files_named(rt, names),
         failing,
-        ample(alloc)?,
-    )?;
+        ample(alloc).expect(rt, "memory"),
+    )
+    .expect(rt, "memory");
     is_due(rt, answer.as_slice(), want, row);
-    Ok(())
 }
 
 #[test]
-fn fetches_that_fail(rt: HostRuntime) -> Result<(), Fail> {
+fn fetches_that_fail(rt: HostRuntime) {
     for (failing, row) in &FAILING_FETCHES {
-        fetch_row(&rt, *failing, row)?;
+        fetch_row(&rt, *failing, row);
     }
-    Ok(())
 }
 
 /// The room, the most bytes a write, the number of the write that fails, the history, and the answer.
@@ -272,33 +272,35 @@ const FAILING_WRITES: [(u64, u64, u64, &str); 16] = [
 ];
 
 /// Asserts the answer of `check` into this sink.
-fn write_row(rt: &(impl Abort + AllocGlobal), out: MemSink, row: &str) -> Result<(), Fail> {
+fn write_row(rt: &(impl Abort + AllocGlobal), out: MemSink, row: &str) {
     let alloc = rt.alloc();
     let (history, want) = cut(row);
-    let files = two_files(alloc, IMPLIES_NEXT.as_bytes(), history.as_bytes())?;
-    let answer = answered(alloc, "check s h", files, Counts::new(alloc), out)?;
+    let files = two_files(alloc, IMPLIES_NEXT.as_bytes(), history.as_bytes()).expect(rt, "memory");
+    let answer = answered(alloc, "check s h", files, Counts::new(alloc), out).expect(rt, "memory");
     is_due(rt, answer.as_slice(), want, row);
-    Ok(())
 }
 
 #[test]
-fn writes_that_fail(rt: HostRuntime) -> Result<(), Fail> {
+fn writes_that_fail(rt: HostRuntime) {
     let alloc = rt.alloc();
     for (room, most, failing, row) in &FAILING_WRITES {
         assert!(rt; 0 < *most);
-        let failing = Counts::from_slice(alloc, &[*failing])?;
-        write_row(&rt, MemSink::new(alloc, *room, *most, failing)?, row)?;
+        let failing = Counts::from_slice(alloc, &[*failing]).expect(&rt, "memory");
+        write_row(
+            &rt,
+            MemSink::new(alloc, *room, *most, failing).expect(&rt, "memory"),
+            row,
+        );
     }
-    Ok(())
 }
 
 /// The text, and blanks behind it up to this many bytes.
-fn padded(alloc: Global, text: &str, length: usize) -> Result<Vec<u8>, AllocError> {
-    let mut bytes = Vec::from_slice(alloc, text.as_bytes())?;
+fn padded(rt: &(impl Abort + AllocGlobal), text: &str, length: usize) -> Vec<u8> {
+    let mut bytes = Vec::from_slice(rt.alloc(), text.as_bytes()).expect(rt, "memory");
     for _ in text.len()..length {
-        bytes.push(b' ')?;
+        bytes.push(b' ').expect(rt, "memory");
     }
-    Ok(bytes)
+    bytes
 }
 
 /// The specification and the history, the lengths of their files where those are longer, and the answer.
@@ -324,25 +326,24 @@ const LONG_AND_EMPTY: [(&str, usize, usize, &str); 7] = [
 
 /// The answer of `check` where blanks stand behind both texts.
 fn padded_answer(
-    alloc: Global,
+    rt: &(impl Abort + AllocGlobal),
     spec: &str,
     spec_length: usize,
     history: &str,
     history_length: usize,
-) -> Result<Vec<u8>, AllocError> {
-    let spec = padded(alloc, spec, spec_length)?;
-    let history = padded(alloc, history, history_length)?;
-    checked(alloc, spec.as_slice(), history.as_slice())
+) -> Vec<u8> {
+    let spec = padded(rt, spec, spec_length);
+    let history = padded(rt, history, history_length);
+    checked(rt.alloc(), spec.as_slice(), history.as_slice()).expect(rt, "memory")
 }
 
 #[test]
-fn long_and_empty_files(rt: HostRuntime) -> Result<(), Fail> {
+fn long_and_empty_files(rt: HostRuntime) {
     for (spec, spec_length, history_length, row) in &LONG_AND_EMPTY {
         let (history, want) = cut(row);
-        let answer = padded_answer(rt.alloc(), spec, *spec_length, history, *history_length)?;
+        let answer = padded_answer(&rt, spec, *spec_length, history, *history_length);
         is_due(&rt, answer.as_slice(), want, row);
     }
-    Ok(())
 }
 
 /// For runs in which one allocation fails: each answer is the row's or want of memory. An allocation of the test's own that fails ends it.
@@ -383,8 +384,8 @@ const TRUTHS: [&str; 16] = [
 ];
 
 #[test]
-fn truth_of_each_form(rt: HostRuntime) -> Result<(), Fail> {
-    check_behind(&rt, "time 3; item p : bool; ", &TRUTHS)
+fn truth_of_each_form(rt: HostRuntime) {
+    check_behind(&rt, "time 3; item p : bool; ", &TRUTHS);
 }
 
 /// A history of `p` and `q` over two instants, and the answer of `check`.
@@ -417,16 +418,15 @@ const HISTORIES: [&str; 25] = [
 ];
 
 #[test]
-fn histories_in_every_form(rt: HostRuntime) -> Result<(), Fail> {
+fn histories_in_every_form(rt: HostRuntime) {
     let before = "time 2; item p : bool; input q : bool; axiom A : p -> q; ~ ";
-    check_behind(&rt, before, &HISTORIES)
+    check_behind(&rt, before, &HISTORIES);
 }
 
 #[test]
-fn a_byte_of_no_text(rt: HostRuntime) -> Result<(), Fail> {
-    let answer = checked(rt.alloc(), b"time 1;", b"\n\xff")?;
+fn a_byte_of_no_text(rt: HostRuntime) {
+    let answer = checked(rt.alloc(), b"time 1;", b"\n\xff").expect(&rt, "memory");
     is_due(&rt, answer.as_slice(), "4 refused history lex 1\n", "");
-    Ok(())
 }
 
 /// The number with which the program ends.
@@ -448,35 +448,39 @@ fn statuses_have_their_numbers(rt: HostRuntime) {
 }
 
 /// Asserts what is said of a fault.
-fn says(rt: &(impl Abort + AllocGlobal), fault: Fault, want: &str) -> Result<(), Fail> {
+fn says(rt: &(impl Abort + AllocGlobal), fault: Fault, want: &str) {
     let alloc = rt.alloc();
-    let mut out = ample(alloc)?;
+    let mut out = ample(alloc).expect(rt, "memory");
     let status = say(&mut out, &fault);
-    is_due(rt, shown(alloc, status, &out)?.as_slice(), want, want);
-    Ok(())
+    is_due(
+        rt,
+        shown(alloc, status, &out).expect(rt, "memory").as_slice(),
+        want,
+        want,
+    );
 }
 
 #[test]
-fn faults_have_their_messages(rt: HostRuntime) -> Result<(), Fail> {
-    let p = Name::new(rt.alloc(), "p")?;
-    let q = Name::new(rt.alloc(), "q(0,red)")?;
-    says(&rt, Fault::Read, "5 fault read\n")?;
-    says(&rt, Fault::TooLong(Text::Spec), "4 refused spec long\n")?;
+fn faults_have_their_messages(rt: HostRuntime) {
+    let p = Name::new(rt.alloc(), "p").expect(&rt, "memory");
+    let q = Name::new(rt.alloc(), "q(0,red)").expect(&rt, "memory");
+    says(&rt, Fault::Read, "5 fault read\n");
+    says(&rt, Fault::TooLong(Text::Spec), "4 refused spec long\n");
     says(
         &rt,
         Fault::TooLong(Text::History),
         "4 refused history long\n",
-    )?;
-    says(&rt, Fault::Missing(p), "4 refused history missing p\n")?;
-    says(&rt, Fault::Unknown(q, 255), "4 unknown q(0,red) 255\n")?;
-    says(&rt, Fault::Write, "6 ")?;
-    says(&rt, Fault::Memory, "7 fault memory\n")
+    );
+    says(&rt, Fault::Missing(p), "4 refused history missing p\n");
+    says(&rt, Fault::Unknown(q, 255), "4 unknown q(0,red) 255\n");
+    says(&rt, Fault::Write, "6 ");
+    says(&rt, Fault::Memory, "7 fault memory\n");
 }
 
 /// Asserts the words on a refused specification.
-fn spec_says(rt: &(impl Abort + AllocGlobal), fault: SpecFault, words: &str) -> Result<(), Fail> {
-    let want = format!(in rt.alloc(); "4 refused spec {words}\n")?;
-    says(rt, Fault::Spec(fault), want.as_str())
+fn spec_says(rt: &(impl Abort + AllocGlobal), fault: SpecFault, words: &str) {
+    let want = format!(in rt.alloc(); "4 refused spec {words}\n").expect(rt, "memory");
+    says(rt, Fault::Spec(fault), want.as_str());
 }
 
 /// A fault of a specification, and the words behind `refused spec`.
@@ -500,21 +504,16 @@ const SPEC_MESSAGES: [(SpecFault, &str); 13] = [
 ];
 
 #[test]
-fn refused_specifications_have_their_messages(rt: HostRuntime) -> Result<(), Fail> {
+fn refused_specifications_have_their_messages(rt: HostRuntime) {
     for (fault, words) in &SPEC_MESSAGES {
-        spec_says(&rt, *fault, words)?;
+        spec_says(&rt, *fault, words);
     }
-    Ok(())
 }
 
 /// Asserts the words on a refused history.
-fn history_says(
-    rt: &(impl Abort + AllocGlobal),
-    fault: HistFault,
-    words: &str,
-) -> Result<(), Fail> {
-    let want = format!(in rt.alloc(); "4 refused history {words}\n")?;
-    says(rt, Fault::History(fault), want.as_str())
+fn history_says(rt: &(impl Abort + AllocGlobal), fault: HistFault, words: &str) {
+    let want = format!(in rt.alloc(); "4 refused history {words}\n").expect(rt, "memory");
+    says(rt, Fault::History(fault), want.as_str());
 }
 
 /// A fault of a history, and the words behind `refused history`.
@@ -528,11 +527,10 @@ const HISTORY_MESSAGES: [(HistFault, &str); 6] = [
 ];
 
 #[test]
-fn refused_histories_have_their_messages(rt: HostRuntime) -> Result<(), Fail> {
+fn refused_histories_have_their_messages(rt: HostRuntime) {
     for (fault, words) in &HISTORY_MESSAGES {
-        history_says(&rt, *fault, words)?;
+        history_says(&rt, *fault, words);
     }
-    Ok(())
 }
 
 /// Over a shelf that never fails and a sink in memory: the answer due, or want of memory, and every file as it was.
@@ -548,20 +546,24 @@ fn sure_status(alloc: Global, words: &[String], shelf: &mut SureShelf, out: &mut
 }
 
 /// Asserts the answer in the last column for the history in the first.
-fn sure_row(rt: &(impl Abort + AllocGlobal), row: &str) -> Result<(), Fail> {
+fn sure_row(rt: &(impl Abort + AllocGlobal), row: &str) {
     let alloc = rt.alloc();
     let (history, want) = cut(row);
-    let files = two_files(alloc, IMPLIES_NEXT.as_bytes(), history.as_bytes())?;
-    let mut shelf = SureShelf::new(alloc, files)?;
-    let mut out = ample(alloc)?;
-    let words = words_in(alloc, "check s h")?;
+    let files = two_files(alloc, IMPLIES_NEXT.as_bytes(), history.as_bytes()).expect(rt, "memory");
+    let mut shelf = SureShelf::new(alloc, files).expect(rt, "memory");
+    let mut out = ample(alloc).expect(rt, "memory");
+    let words = words_in(alloc, "check s h").expect(rt, "memory");
     let status = sure_status(alloc, words.as_slice(), &mut shelf, &mut out);
-    is_due(rt, shown(alloc, status, &out)?.as_slice(), want, row);
-    Ok(())
+    is_due(
+        rt,
+        shown(alloc, status, &out).expect(rt, "memory").as_slice(),
+        want,
+        row,
+    );
 }
 
 #[test]
-fn what_is_due_is_given(rt: HostRuntime) -> Result<(), Fail> {
-    sure_row(&rt, "p: 0 0 0 ~ 0 true\n")?;
-    sure_row(&rt, "p: 0 1 1 ~ 1 false A 2\n")
+fn what_is_due_is_given(rt: HostRuntime) {
+    sure_row(&rt, "p: 0 0 0 ~ 0 true\n");
+    sure_row(&rt, "p: 0 1 1 ~ 1 false A 2\n");
 }

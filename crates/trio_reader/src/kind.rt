@@ -3,7 +3,7 @@
 use trio_types::Rel;
 
 /// What kind of value a term has.
-#[derive(Clone, Copy, Debug, PartialEq, Eq)]
+#[derive(Clone, Copy)]
 pub enum TermKind {
     /// None: it has a name that stands for no value.
     Unkinded,

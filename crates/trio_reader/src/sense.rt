@@ -9,7 +9,7 @@ use trio_scope::{Binder, Meaning, Scope, level_of};
 use trio_syntax::RefTree;
 
 /// What a name stands for in a term.
-#[derive(Clone, Copy, Debug, PartialEq, Eq)]
+#[derive(Clone, Copy)]
 pub enum Sense {
     /// A variable, by its level.
     Variable(usize),

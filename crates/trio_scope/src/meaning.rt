@@ -1,7 +1,7 @@
 //! What a declared name stands for.
 
 /// What a name stands for. Domains are numbered with `bool` as 0, items from 0, the words of a domain by their indexes.
-#[derive(Clone, Copy, Debug, PartialEq, Eq)]
+#[derive(Clone, Copy)]
 pub enum Meaning {
     /// The domain of this number.
     Domain(u32),
@@ -14,7 +14,7 @@ pub enum Meaning {
 }
 
 /// Where a name was declared, by the number of its token, and what it stands for.
-#[derive(Clone, Copy, Debug, PartialEq, Eq)]
+#[derive(Clone, Copy)]
 pub struct Declared {
     pub place: usize,
     pub meaning: Meaning,

@@ -19,7 +19,7 @@ pub struct Binder<'a> {
 }
 
 /// What a term stands for where it stands.
-#[derive(Clone, Copy, Debug, PartialEq, Eq)]
+#[derive(Clone, Copy)]
 pub enum Role {
     /// A formula of a term alone.
     Alone,

@@ -1,7 +1,7 @@
 //! Why tokens are no specification.
 
 /// Why tokens are no specification. A place is the number of a token, from 0.
-#[derive(Clone, Copy, Debug, PartialEq, Eq)]
+#[derive(Clone, Copy)]
 pub enum TreeFault {
     /// The first `(` or `[` with which more than 100 of the two are open.
     Deep(usize),

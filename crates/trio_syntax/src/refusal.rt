@@ -2,7 +2,7 @@
 use std::alloc::AllocError;
 
 /// Why a part of a text was not read. The parser then stands where no text of the part goes on.
-#[derive(Clone, Copy, Debug, PartialEq, Eq)]
+#[derive(Clone, Copy)]
 pub enum Refusal {
     /// The next token, or the end of the text, goes on with no text of the part.
     Syntax,

@@ -10,7 +10,7 @@ pub struct Mention {
 }
 
 /// A number as it is written, with its place.
-#[derive(Clone, Copy, Debug, PartialEq, Eq)]
+#[derive(Clone, Copy)]
 pub struct Written {
     pub number: u32,
     pub place: usize,
@@ -57,7 +57,7 @@ pub enum RefTree {
 }
 
 /// Whether a formula is to hold for all values or for some.
-#[derive(Clone, Copy, Debug, PartialEq, Eq)]
+#[derive(Clone, Copy)]
 pub enum Quantifier {
     All,
     Ex,
@@ -88,7 +88,7 @@ pub enum FormulaTree {
 }
 
 /// A number with `-` before it or without.
-#[derive(Clone, Copy, Debug, PartialEq, Eq)]
+#[derive(Clone, Copy)]
 pub struct IntTree {
     pub minus: bool,
     pub number: Written,

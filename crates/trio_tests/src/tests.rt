@@ -1,6 +1,7 @@
 //! Round trips of texts, cores against the checker, three-valued truth, the nodes of each operator, and steps of branches.
 mod branch_calls;
 mod branches;
+mod claims;
 mod cores;
 mod histories;
 mod maker;
@@ -15,6 +16,7 @@ mod sets;
 mod spec_maker;
 mod step_rows;
 mod tables;
+mod texts;
 mod tokens;
 mod truth_rows;
 mod weights;

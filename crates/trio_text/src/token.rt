@@ -183,7 +183,7 @@ pub enum TokenKind {
 }
 
 /// A token: its text is the source's bytes from `start` to `end`, counted from 0; `line` counts from 1.
-#[derive(Clone, Copy, Debug, PartialEq, Eq)]
+#[derive(Clone, Copy)]
 pub struct Token {
     pub kind: TokenKind,
     pub start: u64,
@@ -195,7 +195,7 @@ pub struct Token {
 pub type TokenList = List<Token>;
 
 /// Why a text is no list of tokens.
-#[derive(Clone, Copy, Debug, PartialEq, Eq, Error)]
+#[derive(Clone, Copy, Debug, Error)]
 pub enum LexFault {
     /// The first byte, counted from 0, that is outside blanks and comments and begins no token.
     #[error("byte {0} begins no token")]

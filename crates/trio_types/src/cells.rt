@@ -7,7 +7,7 @@ ghost use Rattle.trio_types.specs.Verdict.{world_of};
 use crate::spec::Spec;
 
 /// What a cell is of: an item, the indexes of its arguments, of which the first `arity` count, and an instant.
-#[derive(Clone, Copy, Debug, PartialEq, Eq)]
+#[derive(Clone, Copy)]
 pub struct CellParts {
     pub item: u32,
     pub args: [u32; 4],

@@ -79,7 +79,7 @@ pub struct Declarations<'a> {
 }
 
 /// What is counted of a specification, and has a limit.
-#[derive(Clone, Copy, Debug, PartialEq, Eq)]
+#[derive(Clone, Copy, Debug)]
 pub enum Which {
     /// The items.
     Items,

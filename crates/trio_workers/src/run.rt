@@ -13,7 +13,7 @@ use std::alloc::{AllocError, Global};
 use std::sync::ledger::Ledger;
 
 /// Why a run has stopped.
-#[derive(Clone, Copy, Debug, PartialEq, Eq)]
+#[derive(Clone, Copy, PartialEq, Eq)]
 pub enum Stopped {
     /// Nothing is left.
     No,

@@ -1,6 +1,5 @@
 //! What is said of a name of each class, and of each relation, where it cannot stand.
 use super::specs_are_refused;
-use std::test::Fail;
 
 /// Specifications with a name of each class, or with each relation, where it cannot stand.
 const CLASSES_AND_RELATIONS: [(&str, &str); 9] = [
@@ -43,6 +42,6 @@ const CLASSES_AND_RELATIONS: [(&str, &str); 9] = [
 ];
 
 #[test]
-fn faults_of_classes_and_relations(rt: HostRuntime) -> Result<(), Fail> {
-    specs_are_refused(&rt, &CLASSES_AND_RELATIONS)
+fn faults_of_classes_and_relations(rt: HostRuntime) {
+    specs_are_refused(&rt, &CLASSES_AND_RELATIONS);
 }

@@ -1,7 +1,5 @@
 //! The line that is shown of a text, and the mark under a place in it.
 use super::is_said;
-use std::process::Abort;
-use std::test::Fail;
 
 /// Specifications that are refused, with all that is said: bytes that steer a terminal, and the 40 bytes that a long line shows at most from
 /// the place on.
@@ -33,9 +31,8 @@ const SHOWN: [(&str, &str); 6] = [
 ];
 
 #[test]
-fn lines_as_they_are_shown(rt: HostRuntime) -> Result<(), Fail> {
+fn lines_as_they_are_shown(rt: HostRuntime) {
     for row in &SHOWN {
-        is_said(&rt, row.0, "", row.1)?;
+        is_said(&rt, row.0, "", row.1);
     }
-    Ok(())
 }

@@ -1,14 +1,11 @@
 //! What is said where files are long, where calls fail, where memory is wanting, and where words name no files.
+ghost use Rattle.std.specs.Prelude.{◌<◌};
 ghost use Rattle.trio_io.specs.RealShelf.{untold};
 
-use super::{ample, answered, few_files, told};
+use super::{USAGE, ample, answered, are_answered, few_files, is_text, told};
 use explain_answers::Status;
-use std::alloc::{AllocError, Global};
 use std::process::Abort;
-use std::test::Fail;
 use trio_io::{Counts, Files, MemShelf, MemSink, Shelf, ShelfFault};
-
-const USAGE: &str = "2 usage: trio_explain check SPEC HIST | complete SPEC HIST\n";
 
 /// Words with what is said of them: which are no names of files, and which are.
 const WORDS: [(&str, &str); 11] = [
@@ -35,12 +32,8 @@ const WORDS: [(&str, &str); 11] = [
 ];
 
 #[test]
-fn words_that_name_files(rt: HostRuntime) -> Result<(), Fail> {
-    for (line, want) in &WORDS {
-        let text = answered(rt.alloc(), line, few_files(rt.alloc())?)?;
-        assert_eq!(rt; text.as_slice(), want.as_bytes(), "{line}");
-    }
-    Ok(())
+fn words_that_name_files(rt: HostRuntime) {
+    are_answered(&rt, &WORDS);
 }
 
 /// The number of the fetch that fails, the words, and what is said.
@@ -64,15 +57,11 @@ const FAILING_FETCHES: [(u64, &str, &str); 4] = [
 ];
 
 #[test]
-fn fetches_that_fail(rt: HostRuntime) -> Result<(), Fail> {
-    let alloc = rt.alloc();
+fn fetches_that_fail(rt: HostRuntime) {
     for (failing, line, want) in &FAILING_FETCHES {
-        let failing = Counts::from_slice(alloc, &[*failing])?;
-        let mut shelf = MemShelf::new(alloc, few_files(alloc)?, failing)?;
-        let text = told(alloc, line, &mut shelf, ample(alloc)?)?;
-        assert_eq!(rt; text.as_slice(), want.as_bytes(), "{line}");
+        let text = answered(&rt, line, few_files(&rt), &[*failing]);
+        is_text(&rt, text.as_slice(), want, line);
     }
-    Ok(())
 }
 
 /// The room, the most bytes a write, the number of the write that fails, and the status with what was written.
@@ -86,27 +75,32 @@ const FAILING_WRITES: [(u64, u64, u64, &str); 7] = [
     (22, 1000, 0, "0 spec is true in known\n"),
 ];
 
+/// What is said into a sink of this room that takes so many bytes a write, of which this one fails.
+fn written(rt: &(impl Abort + AllocGlobal), room: u64, most: u64, failing: u64) -> Vec<u8>
+    requires { 0 < most }
+{
+    let failing = Counts::from_slice(rt.alloc(), &[failing]).expect(rt, "memory");
+    let out = MemSink::new(rt.alloc(), room, most, failing).expect(rt, "memory");
+    let shelf = MemShelf::new(rt.alloc(), few_files(rt), Counts::new(rt.alloc()));
+    told(rt, "check spec known", &mut shelf.expect(rt, "memory"), out)
+}
+
 #[test]
-fn writes_that_fail(rt: HostRuntime) -> Result<(), Fail> {
-    let alloc = rt.alloc();
+fn writes_that_fail(rt: HostRuntime) {
     for (room, most, failing, want) in &FAILING_WRITES {
         assert!(rt; 0 < *most);
-        let failing = Counts::from_slice(alloc, &[*failing])?;
-        let out = MemSink::new(alloc, *room, *most, failing)?;
-        let mut shelf = MemShelf::new(alloc, few_files(alloc)?, Counts::new(alloc))?;
-        let text = told(alloc, "check spec known", &mut shelf, out)?;
-        assert_eq!(rt; text.as_slice(), want.as_bytes(), "{want}");
+        let text = written(&rt, *room, *most, *failing);
+        is_text(&rt, text.as_slice(), want, want);
     }
-    Ok(())
 }
 
 /// The text, and blanks behind it up to this many bytes.
-fn padded(alloc: Global, text: &str, length: usize) -> Result<Vec<u8>, AllocError> {
-    let mut bytes = Vec::from_slice(alloc, text.as_bytes())?;
+fn padded(rt: &(impl Abort + AllocGlobal), text: &str, length: usize) -> Vec<u8> {
+    let mut bytes = Vec::from_slice(rt.alloc(), text.as_bytes()).expect(rt, "memory");
     for _ in text.len()..length {
-        bytes.push(b' ')?;
+        bytes.push(b' ').expect(rt, "memory");
     }
-    Ok(bytes)
+    bytes
 }
 
 /// The lengths of a specification's file and a history's, and what is said.
@@ -124,17 +118,22 @@ const LENGTHS: [(usize, usize, &str); 3] = [
     ),
 ];
 
+/// What is said of a specification's file and a history's of these lengths.
+fn said_of_lengths(rt: &(impl Abort + AllocGlobal), spec: usize, history: usize) -> Vec<u8> {
+    let spec = padded(rt, "time 1;", spec);
+    let history = padded(rt, "", history);
+    let mut files = Files::new(rt.alloc());
+    files.push("s", spec.as_slice()).expect(rt, "memory");
+    files.push("h", history.as_slice()).expect(rt, "memory");
+    answered(rt, "check s h", files, &[])
+}
+
 #[test]
-fn long_files(rt: HostRuntime) -> Result<(), Fail> {
-    let alloc = rt.alloc();
+fn long_files(rt: HostRuntime) {
     for (spec, history, want) in &LENGTHS {
-        let mut files = Files::new(alloc);
-        files.push("s", padded(alloc, "time 1;", *spec)?.as_slice())?;
-        files.push("h", padded(alloc, "", *history)?.as_slice())?;
-        let text = answered(alloc, "check s h", files)?;
-        assert_eq!(rt; text.as_slice(), want.as_bytes(), "{want}");
+        let text = said_of_lengths(&rt, *spec, *history);
+        is_text(&rt, text.as_slice(), want, want);
     }
-    Ok(())
 }
 
 /// A shelf that wants memory at each call.
@@ -154,15 +153,10 @@ impl Shelf for WantingShelf {
 }
 
 #[test]
-fn memory_that_is_wanting(rt: HostRuntime) -> Result<(), Fail> {
-    let alloc = rt.alloc();
-    let mut shelf = WantingShelf {};
-    let text = told(alloc, "check spec known", &mut shelf, ample(alloc)?)?;
-    assert_eq!(rt;
-        text.as_slice(),
-        b"7 there is not memory enough\n".as_slice()
-    );
-    Ok(())
+fn memory_that_is_wanting(rt: HostRuntime) {
+    let line = "check spec known";
+    let text = told(&rt, line, &mut WantingShelf {}, ample(&rt));
+    is_text(&rt, text.as_slice(), "7 there is not memory enough\n", line);
 }
 
 /// The number with which the program ends.

@@ -1,8 +1,6 @@
 //! All that is said of counts above their limits, of rows and values of histories, and of an axiom among others.
 use super::is_said;
-use std::alloc::{AllocError, Global};
 use std::process::Abort;
-use std::test::Fail;
 
 /// Specifications with a count above its limit, with all that is said.
 const LIMITS: [(&str, &str); 3] = [
@@ -21,41 +19,40 @@ const LIMITS: [(&str, &str); 3] = [
 ];
 
 /// A specification with so many items of one cell each.
-fn items(alloc: Global, count: u32) -> Result<String, AllocError> {
-    let mut text = String::from_str(alloc, "time 1;")?;
+fn items(rt: &(impl Abort + AllocGlobal), count: u32) -> String {
+    let mut text = String::from_str(rt.alloc(), "time 1;").expect(rt, "memory");
     for number in 0..count {
-        let item = format!(in alloc; " item i{number} : bool;")?;
-        text.push_str(item.as_str())?;
+        let item = format!(in rt.alloc(); " item i{number} : bool;").expect(rt, "memory");
+        text.push_str(item.as_str()).expect(rt, "memory");
     }
-    Ok(text)
+    text
 }
 
 /// A specification in which so many negations of conjunctions stand in one another.
-fn nested(alloc: Global, count: usize) -> Result<String, AllocError> {
-    format!(in alloc;
-        "time 1; item p : bool; axiom A : {}p{};",
-        "p & !(".repeat(alloc, count)?,
-        ")".repeat(alloc, count)?
-    )
+fn nested(rt: &(impl Abort + AllocGlobal), count: usize) -> String {
+    let front = "p & !(".repeat(rt.alloc(), count).expect(rt, "memory");
+    let end = ")".repeat(rt.alloc(), count).expect(rt, "memory");
+    let text = format!(in rt.alloc(); "time 1; item p : bool; axiom A : {front}p{end};");
+    text.expect(rt, "memory")
 }
 
 #[test]
-fn counts_above_their_limits(rt: HostRuntime) -> Result<(), Fail> {
+fn counts_above_their_limits(rt: HostRuntime) {
     for row in &LIMITS {
-        is_said(&rt, row.0, "", row.1)?;
+        is_said(&rt, row.0, "", row.1);
     }
     is_said(
         &rt,
-        items(rt.alloc(), 257)?.as_str(),
+        items(&rt, 257).as_str(),
         "",
         "4 s: the number of items is 257, and the limit is 256\n",
-    )?;
+    );
     is_said(
         &rt,
-        nested(rt.alloc(), 51)?.as_str(),
+        nested(&rt, 51).as_str(),
         "",
         "4 s: the number of brackets that are open at once in the canonical text is 101, and the limit is 100\n",
-    )
+    );
 }
 
 /// Specifications with histories that are refused, with all that is said: values behind `-`, items with arguments, rows that are not the first.
@@ -123,20 +120,19 @@ const ROWS: [(&str, &str, &str); 12] = [
 ];
 
 #[test]
-fn rows_and_values(rt: HostRuntime) -> Result<(), Fail> {
+fn rows_and_values(rt: HostRuntime) {
     for row in &ROWS {
-        is_said(&rt, row.0, row.1, row.2)?;
+        is_said(&rt, row.0, row.1, row.2);
     }
-    Ok(())
 }
 
 /// The axiom that is named stands behind another one and a goal, and is the first false one by its number, not by its instant.
 #[test]
-fn an_axiom_among_others(rt: HostRuntime) -> Result<(), Fail> {
+fn an_axiom_among_others(rt: HostRuntime) {
     is_said(
         &rt,
         "time 3; item p : bool;\naxiom A : true;\ngoal G : false;\naxiom B at 2 : p;\naxiom C : false;",
         "p: 1 1 0",
         "1 s:4:7: axiom `B` is false at instant 2\naxiom B at 2 : p;\n      ^\n\n   0 1 2\n       v\np ####__\n",
-    )
+    );
 }

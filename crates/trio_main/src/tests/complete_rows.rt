@@ -16,21 +16,21 @@ fn completed_into(
 }
 
 /// Asserts the answer in the last column for the specification and the history in the others.
-fn complete_row(rt: &(impl Abort + AllocGlobal), row: &str) -> Result<(), Fail> {
+fn complete_row(rt: &(impl Abort + AllocGlobal), row: &str) {
     let alloc = rt.alloc();
     let (spec, rest) = cut(row);
     let (history, want) = cut(rest);
-    let answer = completed_into(alloc, spec, history, ample(alloc)?)?;
+    let answer = completed_into(alloc, spec, history, ample(alloc).expect(rt, "memory")).expect(
+        rt, "memory",
+    );
     is_due(rt, answer.as_slice(), want, row);
-    Ok(())
 }
 
 /// Asserts each row.
-fn complete_all(rt: &(impl Abort + AllocGlobal), rows: &[&str]) -> Result<(), Fail> {
+fn complete_all(rt: &(impl Abort + AllocGlobal), rows: &[&str]) {
     for row in rows {
-        complete_row(rt, row)?;
+        complete_row(rt, row);
     }
-    Ok(())
 }
 
 /// A specification, a history, and the list that `complete` answers.
@@ -46,33 +46,40 @@ const LISTS: [&str; 8] = [
 ];
 
 #[test]
-fn lists_of_completions(rt: HostRuntime) -> Result<(), Fail> {
-    complete_all(&rt, &LISTS)
+fn lists_of_completions(rt: HostRuntime) {
+    complete_all(&rt, &LISTS);
 }
 
 /// The text of the 40 histories in which `Until(p, q)` is true at 0: q at 1, or p at 1 and q at 2.
-fn until_text(alloc: Global) -> Result<String, AllocError> {
-    let mut text = String::from_str(alloc, "0 histories 40\n")?;
+fn until_text(rt: &(impl Abort + AllocGlobal)) -> String {
+    let mut text = String::from_str(rt.alloc(), "0 histories 40\n").expect(rt, "memory");
     let mut number = 0_u32;
     for bits in 0..64_u32 {
         let [a, b, c] = [bits >> 5 & 1, bits >> 4 & 1, bits >> 3 & 1];
         let [d, e, f] = [bits >> 2 & 1, bits >> 1 & 1, bits & 1];
         if e == 1 || (b == 1 && f == 1) {
             number = number.saturating_add(1);
-            let history = format!(in alloc; "history {number}\np: {a} {b} {c}\nq: {d} {e} {f}\n")?;
-            text.push_str(history.as_str())?;
+            let history = format!(in rt.alloc();
+                "history {number}\np: {a} {b} {c}\nq: {d} {e} {f}\n"
+            ).expect(rt, "memory");
+            text.push_str(history.as_str()).expect(rt, "memory");
         }
     }
-    Ok(text)
+    text
 }
 
 #[test]
-fn completions_of_until(rt: HostRuntime) -> Result<(), Fail> {
+fn completions_of_until(rt: HostRuntime) {
     let alloc = rt.alloc();
     let spec = "time 3; item p : bool; item q : bool; axiom A at 0 : Until(p, q);";
-    let answer = completed_into(alloc, spec, "p: ? ? ?\nq: ? ? ?", ample(alloc)?)?;
-    is_due(&rt, answer.as_slice(), until_text(alloc)?.as_str(), spec);
-    Ok(())
+    let answer = completed_into(
+        alloc,
+        spec,
+        "p: ? ? ?\nq: ? ? ?",
+        ample(alloc).expect(&rt, "memory"),
+    )
+    .expect(&rt, "memory");
+    is_due(&rt, answer.as_slice(), until_text(&rt).as_str(), spec);
 }
 
 /// What is not known of sent(a) at 3, and of sent(b) at 2 and at 3, takes six of its eight values, and `got` follows.
@@ -80,8 +87,8 @@ const TRANSMISSION: &str =
     "time 10; domain msg = {a, b}; input sent(msg) : bool; item got(msg) : bool; axiom Pass : all m : msg (Dist(true, 5) -> (sent(m) <-> Dist(got(m), 5))); axiom Start : all m : msg (!Dist(true, -5) -> !got(m)); axiom One : !(sent(a) & sent(b)); ~ sent(a): 1 0 0 ? 0 0 0 0 0 0\nsent(b): 0 0 ? ? 0 0 0 0 0 0\ngot(a): ? ? ? ? ? ? ? ? ? ?\ngot(b): ? ? ? ? ? ? ? ? ? ?\n ~ 0 histories 6\nhistory 1\nsent(a): 1 0 0 0 0 0 0 0 0 0\nsent(b): 0 0 0 0 0 0 0 0 0 0\ngot(a): 0 0 0 0 0 1 0 0 0 0\ngot(b): 0 0 0 0 0 0 0 0 0 0\nhistory 2\nsent(a): 1 0 0 0 0 0 0 0 0 0\nsent(b): 0 0 0 1 0 0 0 0 0 0\ngot(a): 0 0 0 0 0 1 0 0 0 0\ngot(b): 0 0 0 0 0 0 0 0 1 0\nhistory 3\nsent(a): 1 0 0 0 0 0 0 0 0 0\nsent(b): 0 0 1 0 0 0 0 0 0 0\ngot(a): 0 0 0 0 0 1 0 0 0 0\ngot(b): 0 0 0 0 0 0 0 1 0 0\nhistory 4\nsent(a): 1 0 0 0 0 0 0 0 0 0\nsent(b): 0 0 1 1 0 0 0 0 0 0\ngot(a): 0 0 0 0 0 1 0 0 0 0\ngot(b): 0 0 0 0 0 0 0 1 1 0\nhistory 5\nsent(a): 1 0 0 1 0 0 0 0 0 0\nsent(b): 0 0 0 0 0 0 0 0 0 0\ngot(a): 0 0 0 0 0 1 0 0 1 0\ngot(b): 0 0 0 0 0 0 0 0 0 0\nhistory 6\nsent(a): 1 0 0 1 0 0 0 0 0 0\nsent(b): 0 0 1 0 0 0 0 0 0 0\ngot(a): 0 0 0 0 0 1 0 0 1 0\ngot(b): 0 0 0 0 0 0 0 1 0 0\n";
 
 #[test]
-fn completions_of_the_transmission_line(rt: HostRuntime) -> Result<(), Fail> {
-    complete_row(&rt, TRANSMISSION)
+fn completions_of_the_transmission_line(rt: HostRuntime) {
+    complete_row(&rt, TRANSMISSION);
 }
 
 /// 64 cells have far more tables than can be gone over one by one.
@@ -89,8 +96,8 @@ const MANY_CELLS: &str =
     "time 64; item p : bool; axiom A : p; ~ p: ? ? ? ? ? ? ? ? ? ? ? ? ? ? ? ? ? ? ? ? ? ? ? ? ? ? ? ? ? ? ? ? ? ? ? ? ? ? ? ? ? ? ? ? ? ? ? ? ? ? ? ? ? ? ? ? ? ? ? ? ? ? ? ? ~ 0 histories 1\nhistory 1\np: 1 1 1 1 1 1 1 1 1 1 1 1 1 1 1 1 1 1 1 1 1 1 1 1 1 1 1 1 1 1 1 1 1 1 1 1 1 1 1 1 1 1 1 1 1 1 1 1 1 1 1 1 1 1 1 1 1 1 1 1 1 1 1 1\n";
 
 #[test]
-fn one_completion_of_many_cells(rt: HostRuntime) -> Result<(), Fail> {
-    complete_row(&rt, MANY_CELLS)
+fn one_completion_of_many_cells(rt: HostRuntime) {
+    complete_row(&rt, MANY_CELLS);
 }
 
 /// The number of the write that fails, and the answer: the first line is one write, and each history is one.
@@ -109,15 +116,14 @@ const CUT_LISTS: [(u64, &str); 5] = [
 ];
 
 #[test]
-fn lists_are_cut_between_pieces(rt: HostRuntime) -> Result<(), Fail> {
+fn lists_are_cut_between_pieces(rt: HostRuntime) {
     let alloc = rt.alloc();
     for (failing, want) in &CUT_LISTS {
-        let failing = Counts::from_slice(alloc, &[*failing])?;
-        let out = MemSink::new(alloc, 4096, 4096, failing)?;
-        let answer = completed_into(alloc, TRUE_AHEAD, "p: ? ? ?\n", out)?;
+        let failing = Counts::from_slice(alloc, &[*failing]).expect(&rt, "memory");
+        let out = MemSink::new(alloc, 4096, 4096, failing).expect(&rt, "memory");
+        let answer = completed_into(alloc, TRUE_AHEAD, "p: ? ? ?\n", out).expect(&rt, "memory");
         is_due(&rt, answer.as_slice(), want, want);
     }
-    Ok(())
 }
 
 /// A specification, a history, and the refusal of one of them.
@@ -130,8 +136,8 @@ const REFUSED: [&str; 5] = [
 ];
 
 #[test]
-fn texts_that_complete_refuses(rt: HostRuntime) -> Result<(), Fail> {
-    complete_all(&rt, &REFUSED)
+fn texts_that_complete_refuses(rt: HostRuntime) {
+    complete_all(&rt, &REFUSED);
 }
 
 /// For runs in which one allocation fails: the answer is the list or want of memory.

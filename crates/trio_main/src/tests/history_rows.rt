@@ -1,16 +1,14 @@
 //! Worked rows on histories: what a row shows, the history, and the answer of `check` over the specification above it.
 use super::{check_row, cut};
 use std::process::Abort;
-use std::test::Fail;
 
 /// Asserts the answer in the last column for the specification and the history in the middle one.
-fn check_rows(rt: &(impl Abort + AllocGlobal), spec: &str, rows: &[&str]) -> Result<(), Fail> {
+fn check_rows(rt: &(impl Abort + AllocGlobal), spec: &str, rows: &[&str]) {
     for row in rows {
         let (_, history_and_answer) = cut(row);
-        let row = format!(in rt.alloc(); "{spec} ~ {history_and_answer}")?;
-        check_row(rt, row.as_str())?;
+        let row = format!(in rt.alloc(); "{spec} ~ {history_and_answer}").expect(rt, "memory");
+        check_row(rt, row.as_str());
     }
-    Ok(())
 }
 
 const MIXED: &str =
@@ -126,16 +124,16 @@ const PAIRS_ROWS: [&str; 10] = [
 ];
 
 #[test]
-fn rows_with_an_argument(rt: HostRuntime) -> Result<(), Fail> {
-    check_rows(&rt, MIXED, &MIXED_ROWS)
+fn rows_with_an_argument(rt: HostRuntime) {
+    check_rows(&rt, MIXED, &MIXED_ROWS);
 }
 
 #[test]
-fn no_rows(rt: HostRuntime) -> Result<(), Fail> {
-    check_rows(&rt, NO_ITEMS, &NO_ITEMS_ROWS)
+fn no_rows(rt: HostRuntime) {
+    check_rows(&rt, NO_ITEMS, &NO_ITEMS_ROWS);
 }
 
 #[test]
-fn rows_with_two_arguments(rt: HostRuntime) -> Result<(), Fail> {
-    check_rows(&rt, PAIRS, &PAIRS_ROWS)
+fn rows_with_two_arguments(rt: HostRuntime) {
+    check_rows(&rt, PAIRS, &PAIRS_ROWS);
 }

@@ -1,7 +1,6 @@
 //! Worked rows on operators, terms and quantifiers.
 use super::{check_all, checked, cut, is_due};
 use std::process::Abort;
-use std::test::Fail;
 
 /// An instant, a formula, the values of `p` at the four instants, and whether the formula is true at that instant.
 const OVER_P: [&str; 80] = [
@@ -160,56 +159,55 @@ fn holds_at(
     instant: &str,
     formula: &str,
     want: &str,
-) -> Result<(), Fail> {
+) {
     let alloc = rt.alloc();
-    let spec = format!(in alloc; "{declarations} axiom A at {instant} : {formula};")?;
+    let spec = format!(in alloc; "{declarations} axiom A at {instant} : {formula};").expect(
+        rt, "memory",
+    );
     let want = match want {
-        "true" => String::from_str(alloc, "0 true\n")?,
-        _ => format!(in alloc; "1 false A {instant}\n")?,
+        "true" => String::from_str(alloc, "0 true\n").expect(rt, "memory"),
+        _ => format!(in alloc; "1 false A {instant}\n").expect(rt, "memory"),
     };
-    let answer = checked(alloc, spec.as_bytes(), history.as_bytes())?;
+    let answer = checked(alloc, spec.as_bytes(), history.as_bytes()).expect(rt, "memory");
     is_due(rt, answer.as_slice(), want.as_str(), spec.as_str());
-    Ok(())
 }
 
 /// Asserts a row over `p`.
-fn row_over_p(rt: &(impl Abort + AllocGlobal), row: &str) -> Result<(), Fail> {
+fn row_over_p(rt: &(impl Abort + AllocGlobal), row: &str) {
     let (instant, rest) = cut(row);
     let (formula, rest) = cut(rest);
     let (values, want) = cut(rest);
-    let history = format!(in rt.alloc(); "p: {values}\n")?;
+    let history = format!(in rt.alloc(); "p: {values}\n").expect(rt, "memory");
     let declarations = "time 4; item p : bool;";
-    holds_at(rt, declarations, history.as_str(), instant, formula, want)
+    holds_at(rt, declarations, history.as_str(), instant, formula, want);
 }
 
 #[test]
-fn operators_over_one_item(rt: HostRuntime) -> Result<(), Fail> {
+fn operators_over_one_item(rt: HostRuntime) {
     for row in &OVER_P {
-        row_over_p(&rt, row)?;
+        row_over_p(&rt, row);
     }
-    Ok(())
 }
 
 /// Asserts a row over `p` and `q`.
-fn row_over_p_and_q(rt: &(impl Abort + AllocGlobal), row: &str) -> Result<(), Fail> {
+fn row_over_p_and_q(rt: &(impl Abort + AllocGlobal), row: &str) {
     let (instant, rest) = cut(row);
     let (formula, rest) = cut(rest);
     let (first, rest) = cut(rest);
     let (second, want) = cut(rest);
-    let history = format!(in rt.alloc(); "p: {first}\nq: {second}\n")?;
+    let history = format!(in rt.alloc(); "p: {first}\nq: {second}\n").expect(rt, "memory");
     let declarations = "time 5; item p : bool; item q : bool;";
-    holds_at(rt, declarations, history.as_str(), instant, formula, want)
+    holds_at(rt, declarations, history.as_str(), instant, formula, want);
 }
 
 #[test]
-fn operators_over_two_items(rt: HostRuntime) -> Result<(), Fail> {
+fn operators_over_two_items(rt: HostRuntime) {
     for row in &OVER_P_AND_Q {
-        row_over_p_and_q(&rt, row)?;
+        row_over_p_and_q(&rt, row);
     }
-    Ok(())
 }
 
 #[test]
-fn quantifiers_terms_and_first_false_instants(rt: HostRuntime) -> Result<(), Fail> {
-    check_all(&rt, &WHOLE)
+fn quantifiers_terms_and_first_false_instants(rt: HostRuntime) {
+    check_all(&rt, &WHOLE);
 }

@@ -2,20 +2,18 @@
 //! the formula of the one axiom in place of the text.
 use super::{answer_is, check_all, check_row, cut};
 use std::process::Abort;
-use std::test::Fail;
 
 /// What stands before the formula of the one axiom.
 const PREFIX: &str =
     "time 3; domain n = -1..2; domain c = {red, blue}; item p : bool; item q(n) : bool; item x : n; item w : c; item a(c, n) : n; axiom A : ";
 
 /// Asserts each row of formulas.
-fn check_formulas(rt: &(impl Abort + AllocGlobal), rows: &[&str]) -> Result<(), Fail> {
+fn check_formulas(rt: &(impl Abort + AllocGlobal), rows: &[&str]) {
     for row in rows {
         let (formula, want) = cut(row);
-        let row = format!(in rt.alloc(); "{PREFIX}{formula}; ~  ~ {want}")?;
-        check_row(rt, row.as_str())?;
+        let row = format!(in rt.alloc(); "{PREFIX}{formula}; ~  ~ {want}").expect(rt, "memory");
+        check_row(rt, row.as_str());
     }
-    Ok(())
 }
 
 const NAMES_USED_BEFORE_THEY_ARE_DECLARED: [&str; 16] = [
@@ -38,8 +36,8 @@ const NAMES_USED_BEFORE_THEY_ARE_DECLARED: [&str; 16] = [
 ];
 
 #[test]
-fn names_used_before_they_are_declared(rt: HostRuntime) -> Result<(), Fail> {
-    check_all(&rt, &NAMES_USED_BEFORE_THEY_ARE_DECLARED)
+fn names_used_before_they_are_declared(rt: HostRuntime) {
+    check_all(&rt, &NAMES_USED_BEFORE_THEY_ARE_DECLARED);
 }
 
 const NAMES_USED_BEFORE_THEY_ARE_DECLARED_OF_FORMULAS: [&str; 3] = [
@@ -69,13 +67,13 @@ const UNKNOWN_NAMES_IN_EACH_FORM: [&str; 16] = [
 ];
 
 #[test]
-fn unknown_names_in_each_form(rt: HostRuntime) -> Result<(), Fail> {
-    check_formulas(&rt, &UNKNOWN_NAMES_IN_EACH_FORM)
+fn unknown_names_in_each_form(rt: HostRuntime) {
+    check_formulas(&rt, &UNKNOWN_NAMES_IN_EACH_FORM);
 }
 
 #[test]
-fn names_used_before_they_are_declared_of_formulas(rt: HostRuntime) -> Result<(), Fail> {
-    check_formulas(&rt, &NAMES_USED_BEFORE_THEY_ARE_DECLARED_OF_FORMULAS)
+fn names_used_before_they_are_declared_of_formulas(rt: HostRuntime) {
+    check_formulas(&rt, &NAMES_USED_BEFORE_THEY_ARE_DECLARED_OF_FORMULAS);
 }
 
 /// Texts whose first fault each phase finds, and two that have none, so that the empty history is refused.
@@ -95,8 +93,8 @@ const ONE_OF_EACH_PHASE: [&str; 12] = [
 ];
 
 #[test]
-fn one_of_each_phase(rt: HostRuntime) -> Result<(), Fail> {
-    check_all(&rt, &ONE_OF_EACH_PHASE)
+fn one_of_each_phase(rt: HostRuntime) {
+    check_all(&rt, &ONE_OF_EACH_PHASE);
 }
 
 const NAMES_DECLARED_TWICE: [&str; 19] = [
@@ -122,8 +120,8 @@ const NAMES_DECLARED_TWICE: [&str; 19] = [
 ];
 
 #[test]
-fn names_declared_twice(rt: HostRuntime) -> Result<(), Fail> {
-    check_all(&rt, &NAMES_DECLARED_TWICE)
+fn names_declared_twice(rt: HostRuntime) {
+    check_all(&rt, &NAMES_DECLARED_TWICE);
 }
 
 const KINDS: [&str; 7] = [
@@ -147,13 +145,13 @@ const FIRST_OF_SEVERAL: [&str; 6] = [
 ];
 
 #[test]
-fn first_of_several(rt: HostRuntime) -> Result<(), Fail> {
-    check_all(&rt, &FIRST_OF_SEVERAL)
+fn first_of_several(rt: HostRuntime) {
+    check_all(&rt, &FIRST_OF_SEVERAL);
 }
 
 #[test]
-fn kinds(rt: HostRuntime) -> Result<(), Fail> {
-    check_all(&rt, &KINDS)
+fn kinds(rt: HostRuntime) {
+    check_all(&rt, &KINDS);
 }
 
 /// Sums and products where no number may stand, and items in those of a distance or an argument.
@@ -168,8 +166,8 @@ const KINDS_OF_SUMS: [&str; 7] = [
 ];
 
 #[test]
-fn kinds_of_sums(rt: HostRuntime) -> Result<(), Fail> {
-    check_formulas(&rt, &KINDS_OF_SUMS)
+fn kinds_of_sums(rt: HostRuntime) {
+    check_formulas(&rt, &KINDS_OF_SUMS);
 }
 
 const KINDS_OF_FORMULAS: [&str; 92] = [
@@ -282,13 +280,13 @@ const FIRST_TOKENS: [&str; 10] = [
 ];
 
 #[test]
-fn first_tokens(rt: HostRuntime) -> Result<(), Fail> {
-    check_formulas(&rt, &FIRST_TOKENS)
+fn first_tokens(rt: HostRuntime) {
+    check_formulas(&rt, &FIRST_TOKENS);
 }
 
 #[test]
-fn kinds_of_formulas(rt: HostRuntime) -> Result<(), Fail> {
-    check_formulas(&rt, &KINDS_OF_FORMULAS)
+fn kinds_of_formulas(rt: HostRuntime) {
+    check_formulas(&rt, &KINDS_OF_FORMULAS);
 }
 
 const RANGES: [&str; 38] = [
@@ -333,8 +331,8 @@ const RANGES: [&str; 38] = [
 ];
 
 #[test]
-fn ranges(rt: HostRuntime) -> Result<(), Fail> {
-    check_all(&rt, &RANGES)
+fn ranges(rt: HostRuntime) {
+    check_all(&rt, &RANGES);
 }
 
 const LIMITS: [&str; 23] = [
@@ -364,8 +362,8 @@ const LIMITS: [&str; 23] = [
 ];
 
 #[test]
-fn limits(rt: HostRuntime) -> Result<(), Fail> {
-    check_all(&rt, &LIMITS)
+fn limits(rt: HostRuntime) {
+    check_all(&rt, &LIMITS);
 }
 
 /// A formula F, and the instance count of `Alw(Alw(F))` over 256 instants: 16,777,216 times that of F, and 65,792.
@@ -397,16 +395,17 @@ const INSTANCE_COUNTS: [&str; 24] = [
 ];
 
 #[test]
-fn instance_counts(rt: HostRuntime) -> Result<(), Fail> {
+fn instance_counts(rt: HostRuntime) {
     for row in &INSTANCE_COUNTS {
         let (formula, count) = cut(row);
         let spec = format!(in rt.alloc();
             "time 256; domain d = -1..1; axiom A : Alw(Alw({formula}));"
-        )?;
-        let want = format!(in rt.alloc(); "4 refused spec limit instances {count}")?;
-        answer_is(&rt, spec.as_str(), want.as_str())?;
+        ).expect(&rt, "memory");
+        let want = format!(in rt.alloc(); "4 refused spec limit instances {count}").expect(
+            &rt, "memory",
+        );
+        answer_is(&rt, spec.as_str(), want.as_str());
     }
-    Ok(())
 }
 
 /// Formulas in which the bound of one term, of 1,000,000 times 1,000,001, is above the limit.
@@ -441,18 +440,17 @@ const BOUNDS_ABOVE_THE_LIMIT: [&str; 27] = [
 ];
 
 #[test]
-fn bounds_above_the_limit(rt: HostRuntime) -> Result<(), Fail> {
+fn bounds_above_the_limit(rt: HostRuntime) {
     for formula in &BOUNDS_ABOVE_THE_LIMIT {
         let spec = format!(in rt.alloc();
             "time 1; domain d = 0..1; domain low = -1000000..-999999; domain high = 999999..1000000; item n : high; item m : low; item q(d) : bool; axiom A : {formula};"
-        )?;
+        ).expect(&rt, "memory");
         answer_is(
             &rt,
             spec.as_str(),
             "4 refused spec limit bound 1000001000000",
-        )?;
+        );
     }
-    Ok(())
 }
 
 /// Every axiom and goal counts, also one that stands at one instant.
@@ -465,8 +463,8 @@ const COUNTED_CLAIMS: [&str; 5] = [
 ];
 
 #[test]
-fn counted_claims(rt: HostRuntime) -> Result<(), Fail> {
-    check_all(&rt, &COUNTED_CLAIMS)
+fn counted_claims(rt: HostRuntime) {
+    check_all(&rt, &COUNTED_CLAIMS);
 }
 
 /// Two counts that are above their limits, of which the one that is looked at first is named.
@@ -478,8 +476,8 @@ const LIMITS_IN_THEIR_ORDER: [&str; 4] = [
 ];
 
 #[test]
-fn limits_in_their_order(rt: HostRuntime) -> Result<(), Fail> {
-    check_all(&rt, &LIMITS_IN_THEIR_ORDER)
+fn limits_in_their_order(rt: HostRuntime) {
+    check_all(&rt, &LIMITS_IN_THEIR_ORDER);
 }
 
 const PHASES_IN_THEIR_ORDER: [&str; 11] = [
@@ -497,8 +495,8 @@ const PHASES_IN_THEIR_ORDER: [&str; 11] = [
 ];
 
 #[test]
-fn phases_in_their_order(rt: HostRuntime) -> Result<(), Fail> {
-    check_all(&rt, &PHASES_IN_THEIR_ORDER)
+fn phases_in_their_order(rt: HostRuntime) {
+    check_all(&rt, &PHASES_IN_THEIR_ORDER);
 }
 
 const OPERATORS: [&str; 40] = [
@@ -545,8 +543,8 @@ const OPERATORS: [&str; 40] = [
 ];
 
 #[test]
-fn operators(rt: HostRuntime) -> Result<(), Fail> {
-    check_all(&rt, &OPERATORS)
+fn operators(rt: HostRuntime) {
+    check_all(&rt, &OPERATORS);
 }
 
 /// Names with the first and the last of the letters and digits, and the bytes beside these.
@@ -565,8 +563,8 @@ const BYTES_OF_NAMES: [&str; 11] = [
 ];
 
 #[test]
-fn bytes_of_names(rt: HostRuntime) -> Result<(), Fail> {
-    check_all(&rt, &BYTES_OF_NAMES)
+fn bytes_of_names(rt: HostRuntime) {
+    check_all(&rt, &BYTES_OF_NAMES);
 }
 
 const THE_GRAMMAR: [&str; 64] = [
@@ -637,8 +635,8 @@ const THE_GRAMMAR: [&str; 64] = [
 ];
 
 #[test]
-fn the_grammar(rt: HostRuntime) -> Result<(), Fail> {
-    check_all(&rt, &THE_GRAMMAR)
+fn the_grammar(rt: HostRuntime) {
+    check_all(&rt, &THE_GRAMMAR);
 }
 
 const THE_GRAMMAR_OF_FORMULAS: [&str; 2] = [
@@ -647,6 +645,6 @@ const THE_GRAMMAR_OF_FORMULAS: [&str; 2] = [
 ];
 
 #[test]
-fn the_grammar_of_formulas(rt: HostRuntime) -> Result<(), Fail> {
-    check_formulas(&rt, &THE_GRAMMAR_OF_FORMULAS)
+fn the_grammar_of_formulas(rt: HostRuntime) {
+    check_formulas(&rt, &THE_GRAMMAR_OF_FORMULAS);
 }

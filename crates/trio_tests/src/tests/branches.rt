@@ -1,66 +1,69 @@
 //! Problems of texts, their branches and steps, and these as texts: the sets of a branch as numbers, and behind each `;` a want, by its node,
 //! instant, sign and first index, and the values of variables.
-ghost use Rattle.std.specs.Prelude.{◌≡◌, ◌<◌, IfOk};
+ghost use Rattle.std.specs.Prelude.{◌≡◌, ◌<◌};
 ghost use Rattle.branch_state.specs.Branches.{Fits};
 ghost use Rattle.decompose.specs.Stepped.{IsStep};
 
+use super::texts::Text;
 use branch_state::laws::root_represents_the_models;
 use branch_state::{Branch, Problem, Want, pose, root};
 use decompose::{Fork, ForkParts, Stepped, Steps, Why, step};
 use derived_ops::rewrite;
 use history_table::{Table, read_history};
-use std::alloc::{AllocError, Global};
 use std::marker::Brand;
+use std::process::Abort;
 use std::sync::ledger::{Blank, Ledger};
-use std::test::Fail;
 use trio_reader::read_spec;
 
 /// The problem of a specification's text and a history's.
-pub fn problem_of(alloc: Global, spec: &[u8], history: &[u8]) -> Result<Problem, Fail> {
-    let spec = read_spec(alloc, spec)?;
-    let core = rewrite(alloc, &spec)?;
-    let given = read_history(alloc, &spec, history)?;
-    Ok(pose(spec, core, given))
+pub fn problem_of(rt: &(impl Abort + AllocGlobal), spec: &str, history: &[u8]) -> Problem {
+    let alloc = rt.alloc();
+    let spec = read_spec(alloc, spec.as_bytes()).expect(rt, "specification");
+    let core = rewrite(alloc, &spec).expect(rt, "memory");
+    let given = read_history(alloc, &spec, history).expect(rt, "history");
+    pose(spec, core, given)
 }
 
 /// The root of a problem.
-pub fn fitting_root(alloc: Global, problem: &Problem) -> Result<Branch, AllocError>
-    ensures { IfOk result (Fits problem.now) }
+pub fn fitting_root(rt: &(impl Abort + AllocGlobal), problem: &Problem) -> Branch
+    ensures { Fits problem.now result }
 {
     root_represents_the_models();
     let _core = problem.core();
-    let branch = root(alloc, problem)?;
-    Ok(branch)
+    match root(rt.alloc(), problem) {
+        Ok(branch) => branch,
+        Err(_) => panic!(rt; "memory"),
+    }
 }
 
 /// A step, over a count of its own.
 pub fn stepped<'p>(
-    alloc: Global,
+    rt: &(impl Abort + AllocGlobal),
     problem: &'p Problem,
     branch: Branch,
-) -> Result<Stepped<'p>, AllocError>
+) -> Stepped<'p>
     requires { Fits problem.now branch }
-    ensures { IfOk result (IsStep problem.now branch) }
+    ensures { IsStep problem.now branch result }
 {
-    counted::<Brand>(alloc, problem, branch, Blank::new(1))
+    counted::<Brand>(rt, problem, branch, Blank::new(1))
 }
 
 fn counted<'p, L: Ledger>(
-    alloc: Global,
+    rt: &(impl Abort + AllocGlobal),
     problem: &'p Problem,
     branch: Branch,
     blank: Blank,
-) -> Result<Stepped<'p>, AllocError>
+) -> Stepped<'p>
     requires fits { Fits problem.now branch }
     requires name { blank.name ≡ L.name }
     requires parts { blank.parts ≡ L.parts }
     requires some { 0 < blank.parts }
-    ensures { IfOk result (IsStep problem.now branch) }
+    ensures { IsStep problem.now branch result }
 {
     let mut steps = Steps::<L>::start(blank);
-    match step(alloc, problem, branch, &mut steps) {
-        Ok(stepped) => Ok(stepped),
-        Err((_, refused)) => Err(refused),
+    match step(rt.alloc(), problem, branch, &mut steps) {
+        Ok(stepped) => stepped,
+        Err(_) => panic!(rt; "memory"),
     }
 }
 
@@ -74,60 +77,64 @@ pub fn half(problem: &Problem, fork: Fork<'_>, is_left: bool) -> Branch
 }
 
 /// The sets and wants of a branch.
-pub fn branch_text(alloc: Global, branch: &Branch) -> Result<String, AllocError> {
-    let mut text = String::new(alloc);
-    for set in branch.doms.as_slice() {
-        add_number(alloc, &mut text, *set)?;
-    }
+pub fn branch_text(rt: &(impl Abort + AllocGlobal), branch: &Branch) -> String {
+    let mut text = Text::new(rt.alloc());
+    add_branch(&mut text, branch);
+    text.whole(rt)
+}
+
+/// Puts the sets and wants of a branch behind a text.
+pub fn add_branch(text: &mut Text, branch: &Branch) {
+    add_sets(text, branch.doms.as_slice());
     for want in branch.wants.as_slice() {
-        add_want(alloc, &mut text, want)?;
+        add_want(text, want);
     }
-    Ok(text)
 }
 
-/// Writes a number, and a blank before it where it is not the first.
-fn add_number(alloc: Global, text: &mut String, number: u64) -> Result<(), AllocError> {
-    if !text.is_empty() {
-        text.push_str(" ")?;
+fn add_sets(text: &mut Text, sets: &[u64]) {
+    let mut is_first = true;
+    for set in sets {
+        text.put(if is_first { "" } else { " " });
+        text.put_value(*set);
+        is_first = false;
     }
-    let shown = format!(in alloc; "{number}")?;
-    text.push_str(shown.as_str())
 }
 
-fn add_want(alloc: Global, text: &mut String, want: &Want) -> Result<(), AllocError> {
-    let node = want.node;
-    let instant = want.now;
-    let sign = if want.sign { "t" } else { "f" };
-    let from = want.from;
-    let shown = format!(in alloc; "; {node} {instant} {sign} {from}")?;
-    text.push_str(shown.as_str())?;
+fn add_want(text: &mut Text, want: &Want) {
+    text.put("; ");
+    text.put_value(want.node);
+    text.put(" ");
+    text.put_value(want.now);
+    text.put(if want.sign { " t " } else { " f " });
+    text.put_value(want.from);
     for value in want.env.as_slice() {
-        let shown = format!(in alloc; " {value}")?;
-        text.push_str(shown.as_str())?;
+        text.put(" ");
+        text.put_value(*value);
     }
-    Ok(())
 }
 
 /// Why a branch is closed, or the indexes of its table, or its two halves with `|` between them.
-pub fn step_text(alloc: Global, stepped: &Stepped<'_>) -> Result<String, AllocError> {
+pub fn step_text(rt: &(impl Abort + AllocGlobal), stepped: &Stepped<'_>) -> String {
+    let mut text = Text::new(rt.alloc());
     match stepped {
         Stepped::Closed(shut) => match shut.why() {
-            Why::False => String::from_str(alloc, "closed false"),
-            Why::Want => String::from_str(alloc, "closed want"),
+            Why::False => text.put("closed false"),
+            Why::Want => text.put("closed want"),
         },
-        Stepped::Whole(leaf) => whole_text(alloc, leaf.table()),
+        Stepped::Whole(leaf) => add_table(&mut text, leaf.table()),
         Stepped::Two(_, left, right) => {
-            let left = branch_text(alloc, left)?;
-            let right = branch_text(alloc, right)?;
-            format!(in alloc; "{left} | {right}")
+            add_branch(&mut text, left);
+            text.put(" | ");
+            add_branch(&mut text, right);
         }
     }
+    text.whole(rt)
 }
 
-fn whole_text(alloc: Global, table: &Table) -> Result<String, AllocError> {
-    let mut text = String::from_str(alloc, "whole")?;
+fn add_table(text: &mut Text, table: &Table) {
+    text.put("whole");
     for index in table.as_slice() {
-        add_number(alloc, &mut text, u64::from(*index))?;
+        text.put(" ");
+        text.put_value(*index);
     }
-    Ok(text)
 }

@@ -1,20 +1,18 @@
 //! Cores of made specifications in made tables.
-ghost use Rattle.std.specs.Prelude.{IfOk};
 ghost use Rattle.trio_types.specs.Verdict.{world_of};
 ghost use Rattle.trio_types.specs.Cells.{IsTable};
 ghost use Rattle.trio_core.specs.Stands.{StandsFor};
 ghost use Rattle.history_table.specs.Fitting.{IsGiven};
 
+use super::claims::{holds, same};
 use super::maker::Maker;
 use super::sets::truth_under;
 use super::spec_maker::made_spec;
 use super::tables::{made_given, table_of};
 use derived_ops::rewrite;
 use history_check::{Verdict, check};
-use history_table::{Given, HistFault, Table, given_text, read_history};
-use std::alloc::{AllocError, Global};
+use history_table::{Given, Table, given_text, read_history};
 use std::process::Abort;
-use std::test::Fail;
 use trio_core::{Core, Three};
 use trio_reader::read_spec;
 use trio_types::Spec;
@@ -32,25 +30,35 @@ fn single(index: u16) -> u64 {
     if index < 64 { 1 << index } else { 0 }
 }
 
-fn single_sets(alloc: Global, table: &Table) -> Result<Vec<u64>, AllocError> {
-    let mut words = Vec::new(alloc);
+fn single_sets(rt: &(impl Abort + AllocGlobal), table: &Table) -> Vec<u64> {
+    let mut words = Vec::new(rt.alloc());
     for index in table.as_slice() {
-        words.push(single(*index))?;
+        words.push(single(*index)).expect(rt, "memory");
     }
-    Ok(words)
+    words
 }
 
 /// The sets, each with the index that is given for its cell.
-fn wider_sets(alloc: Global, sets: &[u64], given: &Given) -> Result<Vec<u64>, AllocError> {
-    let mut words = Vec::new(alloc);
+fn wider_sets(rt: &(impl Abort + AllocGlobal), sets: &[u64], given: &Given) -> Vec<u64> {
+    let mut words = Vec::new(rt.alloc());
     for (word, entry) in sets.iter().zip(given.as_slice()) {
         let more = match entry {
             Some(index) => single(*index),
             None => 0,
         };
-        words.push(*word | more)?;
+        words.push(*word | more).expect(rt, "memory");
     }
-    Ok(words)
+    words
+}
+
+/// What the checker finds.
+fn checked(rt: &(impl Abort + AllocGlobal), spec: &Spec, table: &Table) -> Three
+    requires { IsTable (world_of spec.now) table.now }
+{
+    match check(rt.alloc(), spec, table).expect(rt, "memory") {
+        Verdict::True => Three::True,
+        Verdict::False(_, _) => Three::False,
+    }
 }
 
 /// Asserts that the core decides under the single sets of a table as the checker does, and under wider sets not against it.
@@ -61,25 +69,19 @@ fn agrees(
     table: &Table,
     wider: &Given,
     seen: &mut Seen,
-) -> Result<(), Fail>
+)
     requires stands { StandsFor core.now spec.now }
     requires fits { IsTable (world_of spec.now) table.now }
 {
-    let alloc = rt.alloc();
-    let want = match check(alloc, spec, table)? {
-        Verdict::True => Three::True,
-        Verdict::False(_, _) => Three::False,
-    };
-    let sets = single_sets(alloc, table)?;
-    assert_eq!(rt;
-        truth_under(alloc, spec, core, sets.as_slice())?,
-        Some(want)
-    );
-    let words = wider_sets(alloc, sets.as_slice(), wider)?;
-    let found = truth_under(alloc, spec, core, words.as_slice())?;
-    assert!(rt; found == Some(want) || found == Some(Three::Unknown));
-    count(seen, want, found == Some(Three::Unknown));
-    Ok(())
+    let want = checked(rt, spec, table);
+    let sets = single_sets(rt, table);
+    let exactly = truth_under(rt, spec, core, sets.as_slice());
+    same(rt, &exactly, &Some(want));
+    let words = wider_sets(rt, sets.as_slice(), wider);
+    let found = truth_under(rt, spec, core, words.as_slice());
+    let is_open = found == Some(Three::Unknown);
+    holds(rt, is_open || found == Some(want));
+    count(seen, want, is_open);
 }
 
 fn count(seen: &mut Seen, truth: Three, is_open: bool) {
@@ -94,55 +96,41 @@ fn count(seen: &mut Seen, truth: Three, is_open: bool) {
 }
 
 /// Makes three tables of a specification.
-fn tables_agree(
-    rt: &(impl Abort + AllocGlobal),
-    spec: &Spec,
-    maker: &mut Maker,
-    seen: &mut Seen,
-) -> Result<(), Fail> {
-    let alloc = rt.alloc();
-    let core = rewrite(alloc, spec)?;
+fn tables_agree(rt: &(impl Abort + AllocGlobal), spec: &Spec, maker: &mut Maker, seen: &mut Seen) {
+    let core = rewrite(rt.alloc(), spec).expect(rt, "memory");
     for _ in 0..3 {
-        let given = made_history(alloc, maker, spec)?;
-        let Some(table) = table_of(alloc, spec, &given)? else {
-            panic!(rt; "a value is not known");
-        };
-        let wider = made_given(alloc, maker, spec, false)?;
-        agrees(rt, spec, &core, &table, &wider, seen)?;
+        let given = made_history(rt, maker, spec);
+        let table = table_of(rt, spec, &given).expect(rt, "known values");
+        let wider = made_given(rt, maker, spec, false);
+        agrees(rt, spec, &core, &table, &wider, seen);
     }
-    Ok(())
 }
 
 /// A made history as its text is read.
-fn made_history(alloc: Global, maker: &mut Maker, spec: &Spec) -> Result<Given, HistFault>
-    ensures { IfOk result (IsGiven (world_of spec.now)) }
+fn made_history(rt: &(impl Abort + AllocGlobal), maker: &mut Maker, spec: &Spec) -> Given
+    ensures { IsGiven (world_of spec.now) result }
 {
-    let whole = made_given(alloc, maker, spec, true)?;
-    let text = given_text(alloc, spec, &whole)?;
-    read_history(alloc, spec, text.as_slice())
+    let whole = made_given(rt, maker, spec, true);
+    let text = given_text(rt.alloc(), spec, &whole).expect(rt, "memory");
+    read_history(rt.alloc(), spec, text.as_slice()).expect(rt, "history")
 }
 
 /// Makes the specification of this number, and tables of it.
-fn number_agrees(
-    rt: &(impl Abort + AllocGlobal),
-    number: u64,
-    seen: &mut Seen,
-) -> Result<(), Fail> {
-    let text = made_spec(rt.alloc(), number)?;
-    let spec = read_spec(rt.alloc(), text.as_bytes())?;
-    tables_agree(rt, &spec, &mut Maker::new(number), seen)
+fn number_agrees(rt: &(impl Abort + AllocGlobal), number: u64, seen: &mut Seen) {
+    let text = made_spec(rt, number);
+    let spec = read_spec(rt.alloc(), text.as_bytes()).expect(rt, text.as_str());
+    tables_agree(rt, &spec, &mut Maker::new(number), seen);
 }
 
 #[test]
-fn cores_agree_with_the_checker(rt: HostRuntime) -> Result<(), Fail> {
+fn cores_agree_with_the_checker(rt: HostRuntime) {
     let mut seen = Seen {
         yes: 0,
         no: 0,
         open: 0,
     };
     for number in 0_u64..1000 {
-        number_agrees(&rt, number, &mut seen)?;
+        number_agrees(&rt, number, &mut seen);
     }
-    assert!(rt; seen.yes >= 100 && seen.no >= 100 && seen.open >= 100);
-    Ok(())
+    holds(&rt, seen.yes >= 100 && seen.no >= 100 && seen.open >= 100);
 }

@@ -1,5 +1,5 @@
 //! The models of a problem, found by the checker among all tables.
-ghost use Rattle.std.specs.Prelude.{◌≡◌, ◌<◌, ◌++◌, ◌∷◌, [], IfOk, IfSome, OnOk};
+ghost use Rattle.std.specs.Prelude.{◌≡◌, ◌<◌, ◌++◌, ◌∷◌, [], IfSome};
 ghost use Rattle.std.specs.List.{All};
 ghost use Rattle.trio_types.specs.Verdict.{world_of};
 ghost use Rattle.trio_types.specs.Cells.{IsTable};
@@ -9,43 +9,48 @@ ghost use Rattle.branch_state.specs.Branches.{Fits};
 use branch_state::{Branch, Problem, holds};
 use history_check::{Verdict, check};
 use history_table::{Given, Table};
-use std::alloc::{AllocError, Global};
 use std::process::Abort;
-use std::test::Fail;
 use trio_types::{Spec, cell_count, cell_size};
 
 /// The tables that extend the given history of a problem, and that the checker finds true.
-pub fn models_of(rt: &(impl Abort + AllocGlobal), problem: &Problem) -> Result<Vec<Table>, Fail>
-    ensures { IfOk result (λ made. All (IsTable (world_of_problem problem.now)) made.items) }
+pub fn models_of(rt: &(impl Abort + AllocGlobal), problem: &Problem) -> Vec<Table>
+    ensures { All (IsTable (world_of_problem problem.now)) result.items }
 {
-    let alloc = rt.alloc();
-    let mut models = Vec::new(alloc);
+    let mut models = Vec::new(rt.alloc());
     for number in 0..table_count(&problem.spec, &problem.given) {
-        let Some(table) = table_at(alloc, &problem.spec, &problem.given, number)? else {
-            panic!(rt; "a table is too few");
-        };
-        if let Verdict::True = check(alloc, &problem.spec, &table)? {
-            models.push(table)?;
+        let table = table_at(rt, &problem.spec, &problem.given, number);
+        if is_true(rt, &problem.spec, &table) {
+            models.push(table).expect(rt, "memory");
         }
     }
-    Ok(models)
+    models
+}
+
+/// Whether the checker finds a table true.
+fn is_true(rt: &(impl Abort + AllocGlobal), spec: &Spec, table: &Table) -> bool
+    requires { IsTable (world_of spec.now) table.now }
+{
+    let verdict = check(rt.alloc(), spec, table).expect(rt, "memory");
+    verdict == Verdict::True
 }
 
 /// Of each table, whether a branch holds in it.
 pub fn holding(
-    alloc: Global,
+    rt: &(impl Abort + AllocGlobal),
     problem: &Problem,
     branch: &Branch,
     tables: &[Table],
-) -> Result<Vec<bool>, AllocError>
+) -> Vec<bool>
     requires fits { Fits problem.now branch.now }
     requires tables_fit { All (IsTable (world_of_problem problem.now)) tables.now }
 {
-    let mut found = Vec::new(alloc);
+    let mut found = Vec::new(rt.alloc());
     for table in tables {
-        found.push(holds(problem, branch, table))?;
+        found
+            .push(holds(problem, branch, table))
+            .expect(rt, "memory");
     }
-    Ok(found)
+    found
 }
 
 /// How many tables extend a given history.
@@ -60,24 +65,19 @@ fn table_count(spec: &Spec, given: &Given) -> u32 {
 }
 
 /// The table of this number among those that extend a given history: the number is written with a digit for each cell that is not known.
-fn table_at(
-    alloc: Global,
-    spec: &Spec,
-    given: &Given,
-    number: u32,
-) -> Result<Option<Table>, AllocError>
-    ensures { IfOk result (λ found. IfSome found (IsTable (world_of spec.now))) }
+fn table_at(rt: &(impl Abort + AllocGlobal), spec: &Spec, given: &Given, number: u32) -> Table
+    ensures { IsTable (world_of spec.now) result }
 {
-    let mut table = Table::new(alloc);
+    let mut table = Table::new(rt.alloc());
     let mut rest = number;
     for cell in 0..cell_count(spec) {
         let size = cell_size(spec, cell);
         let Some(index) = index_at(given, cell, &mut rest, size) else {
-            return Ok(None);
+            panic!(rt; "no table has this number");
         };
-        add_index(&mut table, index)?;
+        add_index(rt, &mut table, index);
     }
-    Ok(Some(table))
+    table
 }
 
 /// The index of a cell: the given one, or else the last digit, which is taken off; none where that is no index below the size.
@@ -105,11 +105,11 @@ fn last_digit(number: &mut u32, base: u32) -> u16 {
     digit as u16
 }
 
-fn add_index(table: &mut Table, index: u16) -> Result<(), AllocError>
-    ensures { OnOk result (table.new ≡ table.old ++ index ∷ []) }
+fn add_index(rt: &impl Abort, table: &mut Table, index: u16)
+    ensures { table.new ≡ table.old ++ index ∷ [] }
 {
     match table.push(index) {
-        Ok(()) => Ok(()),
-        Err((_, error)) => Err(error),
+        Ok(()) => {}
+        Err(_) => panic!(rt; "memory"),
     }
 }

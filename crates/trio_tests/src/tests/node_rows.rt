@@ -1,8 +1,9 @@
 //! The nodes of each form of formula, by the table of rewriting. A formula stands before `~`, and its nodes behind it, in order.
+use super::claims::same;
 use super::nodes::shown;
 use derived_ops::rewrite;
 use std::process::Abort;
-use std::test::Fail;
+use trio_core::Core;
 use trio_reader::read_spec;
 
 /// Each operator.
@@ -121,46 +122,50 @@ fn cut(row: &str) -> (&str, &str) {
 }
 
 /// Asserts the nodes of a formula that is the only axiom, and that the last of them is the only root.
-fn check_row(rt: &(impl Abort + AllocGlobal), row: &str) -> Result<(), Fail> {
+fn check_row(rt: &(impl Abort + AllocGlobal), row: &str) {
     let alloc = rt.alloc();
     let (formula, want) = cut(row);
     let text = format!(in alloc;
         "time 3; domain d = 0..1; domain e = -1..1; domain m = {{red, green, blue}}; item p : bool; item q : bool; item n : d; item c : m; item g(d, m) : bool; axiom A : {formula};"
-    )?;
-    let spec = read_spec(alloc, text.as_bytes())?;
-    let core = rewrite(alloc, &spec)?;
-    let found = shown(alloc, &core)?;
+    );
+    let text = text.expect(rt, "memory");
+    let spec = read_spec(alloc, text.as_bytes()).expect(rt, formula);
+    let core = rewrite(alloc, &spec).expect(rt, "memory");
+    let found = shown(rt, &core);
     assert_eq!(rt; found.as_str(), want, "{formula}");
-    assert_eq!(rt; core.roots.len(), 1, "{formula}");
+    is_last(rt, &core);
+}
+
+/// Asserts that the last node is the only root.
+fn is_last(rt: &impl Abort, core: &Core) {
+    assert_eq!(rt; core.roots.len(), 1);
     let root = core.roots.get(0);
-    assert_eq!(rt; root.node as usize + 1, core.nodes.len(), "{formula}");
-    assert_eq!(rt; root.at, None, "{formula}");
-    Ok(())
+    same(rt, &(root.node as usize + 1), &core.nodes.len());
+    same(rt, &root.at, &None);
 }
 
-fn check_rows(rt: &(impl Abort + AllocGlobal), rows: &[&str]) -> Result<(), Fail> {
+fn check_rows(rt: &(impl Abort + AllocGlobal), rows: &[&str]) {
     for row in rows {
-        check_row(rt, row)?;
+        check_row(rt, row);
     }
-    Ok(())
 }
 
 #[test]
-fn nodes_of_atoms_connectives_and_quantifiers(rt: HostRuntime) -> Result<(), Fail> {
-    check_rows(&rt, &CONNECTIVES)
+fn nodes_of_atoms_connectives_and_quantifiers(rt: HostRuntime) {
+    check_rows(&rt, &CONNECTIVES);
 }
 
 #[test]
-fn nodes_of_operators(rt: HostRuntime) -> Result<(), Fail> {
-    check_rows(&rt, &OPERATORS)
+fn nodes_of_operators(rt: HostRuntime) {
+    check_rows(&rt, &OPERATORS);
 }
 
 #[test]
-fn nodes_of_operators_under_a_quantifier(rt: HostRuntime) -> Result<(), Fail> {
-    check_rows(&rt, &UNDER_A_QUANTIFIER)
+fn nodes_of_operators_under_a_quantifier(rt: HostRuntime) {
+    check_rows(&rt, &UNDER_A_QUANTIFIER);
 }
 
 #[test]
-fn nodes_of_parts_with_quantifiers(rt: HostRuntime) -> Result<(), Fail> {
-    check_rows(&rt, &UNDER_AN_OPERATOR)
+fn nodes_of_parts_with_quantifiers(rt: HostRuntime) {
+    check_rows(&rt, &UNDER_AN_OPERATOR);
 }

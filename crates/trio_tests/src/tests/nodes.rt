@@ -1,43 +1,52 @@
 //! Nodes as texts: a part by its number, a variable as `v` and the number of those round it, a sum with the sign of each part in `[` and `]`.
-use std::alloc::{AllocError, Global};
+use super::texts::Text;
+use std::process::Abort;
 use trio_core::{Core, Items, Node, Rel, Term};
 use trio_types::SignedTerm;
 
 /// The nodes of a core in order.
-pub fn shown(alloc: Global, core: &Core) -> Result<String, AllocError> {
-    let mut text = String::new(alloc);
+pub fn shown(rt: &(impl Abort + AllocGlobal), core: &Core) -> String {
+    let mut text = Text::new(rt.alloc());
     for node in core.nodes.as_slice() {
-        if !text.is_empty() {
-            text.push_str("; ")?;
-        }
-        add_node(alloc, &mut text, &core.items, node)?;
+        text.put_between("; ");
+        add_node(&mut text, &core.items, node);
     }
-    Ok(text)
+    text.whole(rt)
 }
 
-fn add_node(
-    alloc: Global,
-    text: &mut String,
-    items: &Items,
-    node: &Node,
-) -> Result<(), AllocError> {
-    let shown = match node {
+fn add_node(text: &mut Text, items: &Items, node: &Node) {
+    match node {
         Node::Atom(rel, left, right) => {
-            add_term(alloc, text, items, left)?;
-            text.push_str(sign_of(*rel))?;
-            return add_term(alloc, text, items, right);
+            add_term(text, items, left);
+            text.put(sign_of(*rel));
+            add_term(text, items, right);
         }
-        Node::Not(part) => format!(in alloc; "!{part}")?,
-        Node::And(left, right) => format!(in alloc; "{left} & {right}")?,
-        Node::Or(left, right) => format!(in alloc; "{left} | {right}")?,
-        Node::Exists(low, high, part) => format!(in alloc; "ex {low}..{high} {part}")?,
+        Node::Not(part) => {
+            text.put("!");
+            text.put_value(*part);
+        }
+        Node::And(left, right) => add_two(text, *left, " & ", *right),
+        Node::Or(left, right) => add_two(text, *left, " | ", *right),
+        Node::Exists(low, high, part) => {
+            text.put("ex ");
+            text.put_value(*low);
+            text.put("..");
+            text.put_value(*high);
+            text.put(" ");
+            text.put_value(*part);
+        }
         Node::Dist(part, distance) => {
-            let shown = format!(in alloc; "{part} at ")?;
-            text.push_str(shown.as_str())?;
-            return add_term(alloc, text, items, distance);
+            text.put_value(*part);
+            text.put(" at ");
+            add_term(text, items, distance);
         }
-    };
-    text.push_str(shown.as_str())
+    }
+}
+
+fn add_two(text: &mut Text, left: u32, sign: &str, right: u32) {
+    text.put_value(left);
+    text.put(sign);
+    text.put_value(right);
 }
 
 fn sign_of(rel: Rel) -> &'static str {
@@ -52,74 +61,52 @@ fn sign_of(rel: Rel) -> &'static str {
 }
 
 #[cycle(terms)]
-fn add_term(
-    alloc: Global,
-    text: &mut String,
-    items: &Items,
-    term: &Term,
-) -> Result<(), AllocError> {
+fn add_term(text: &mut Text, items: &Items, term: &Term) {
     match term {
-        Term::Number(number) => add_number(alloc, text, *number),
-        Term::Value(0, 0) => text.push_str("false"),
-        Term::Value(0, 1) => text.push_str("true"),
-        Term::Value(_, index) => add_number(alloc, text, *index),
+        Term::Number(number) => text.put_value(*number),
+        Term::Value(0, 0) => text.put("false"),
+        Term::Value(0, 1) => text.put("true"),
+        Term::Value(_, index) => text.put_value(*index),
         Term::Var(level) => {
-            text.push_str("v")?;
-            add_number(alloc, text, *level)
+            text.put("v");
+            text.put_value(*level);
         }
         Term::Read(item, args) => {
-            text.push_str(name_of(items, *item))?;
-            add_arguments(alloc, text, items, args.as_slice())
+            text.put(name_of(items, *item));
+            add_arguments(text, items, args.as_slice());
         }
-        Term::Sum(parts) => add_sum(alloc, text, items, parts.as_slice()),
+        Term::Sum(parts) => add_sum(text, items, parts.as_slice()),
         Term::Times(number, factor) => {
-            add_number(alloc, text, *number)?;
-            text.push_str(" * ")?;
-            add_term(alloc, text, items, factor.get())
+            text.put_value(*number);
+            text.put(" * ");
+            add_term(text, items, factor.get());
         }
     }
 }
 
 #[cycle(terms)]
-fn add_arguments(
-    alloc: Global,
-    text: &mut String,
-    items: &Items,
-    args: &[Term],
-) -> Result<(), AllocError> {
-    if args.is_empty() {
-        return Ok(());
-    }
+fn add_arguments(text: &mut Text, items: &Items, args: &[Term]) {
     let mut is_first = true;
     for arg in args {
-        text.push_str(if is_first { "(" } else { ", " })?;
-        add_term(alloc, text, items, arg)?;
+        text.put(if is_first { "(" } else { ", " });
+        add_term(text, items, arg);
         is_first = false;
     }
-    text.push_str(")")
+    if !args.is_empty() {
+        text.put(")");
+    }
 }
 
 #[cycle(terms)]
-fn add_sum(
-    alloc: Global,
-    text: &mut String,
-    items: &Items,
-    parts: &[SignedTerm],
-) -> Result<(), AllocError> {
-    text.push_str("[")?;
+fn add_sum(text: &mut Text, items: &Items, parts: &[SignedTerm]) {
     let mut is_first = true;
     for part in parts {
-        text.push_str(if is_first { "" } else { " " })?;
-        text.push_str(if part.minus { "-" } else { "+" })?;
-        add_term(alloc, text, items, &part.term)?;
+        text.put(if is_first { "[" } else { " " });
+        text.put(if part.minus { "-" } else { "+" });
+        add_term(text, items, &part.term);
         is_first = false;
     }
-    text.push_str("]")
-}
-
-fn add_number(alloc: Global, text: &mut String, number: u32) -> Result<(), AllocError> {
-    let shown = format!(in alloc; "{number}")?;
-    text.push_str(shown.as_str())
+    text.put("]");
 }
 
 fn name_of(items: &Items, item: u32) -> &str {

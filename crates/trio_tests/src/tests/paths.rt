@@ -1,11 +1,12 @@
 //! Random paths of steps, from the roots of made problems to their ends, against the models that the checker finds.
-ghost use Rattle.std.specs.Prelude.{◌≡◌, IfOk, IfSome};
+ghost use Rattle.std.specs.Prelude.{◌≡◌, IfSome};
 ghost use Rattle.std.specs.List.{All};
 ghost use Rattle.trio_types.specs.Cells.{IsTable};
 ghost use Rattle.branch_state.specs.Posed.{world_of_problem};
 ghost use Rattle.branch_state.specs.Branches.{Fits};
 
 use super::branches::{fitting_root, half, problem_of, stepped};
+use super::claims::{holds, same};
 use super::maker::Maker;
 use super::models::{holding, models_of};
 use super::spec_maker::made_small_spec;
@@ -14,9 +15,7 @@ use super::weights::weight;
 use branch_state::{Branch, Problem};
 use decompose::{Fork, Stepped};
 use history_table::{Table, given_text};
-use std::alloc::{AllocError, Global};
 use std::process::Abort;
-use std::test::Fail;
 use trio_reader::read_spec;
 use trio_types::Bytes;
 
@@ -39,19 +38,19 @@ struct Shares {
 
 /// Where the halves of a fork hold, beside where its branch does.
 fn shares_of(
-    alloc: Global,
+    rt: &(impl Abort + AllocGlobal),
     problem: &Problem,
     fork: &Fork<'_>,
     models: &[Table],
     start: Vec<bool>,
-) -> Result<Shares, AllocError>
+) -> Shares
     requires of_problem { fork.now.problem ≡ problem.now }
     requires tables_fit { All (IsTable (world_of_problem problem.now)) models.now }
 {
     let _problem = fork.problem();
-    let left = holding(alloc, problem, fork.left(), models)?;
-    let right = holding(alloc, problem, fork.right(), models)?;
-    Ok(Shares { start, left, right })
+    let left = holding(rt, problem, fork.left(), models);
+    let right = holding(rt, problem, fork.right(), models);
+    Shares { start, left, right }
 }
 
 /// Asserts that each model of a branch is one of just one half, and each other model of none.
@@ -60,7 +59,7 @@ fn parts(rt: &impl Abort, shares: &Shares) {
         let start = is_at(shares.start.as_slice(), place);
         let left = is_at(shares.left.as_slice(), place);
         let right = is_at(shares.right.as_slice(), place);
-        assert!(rt; is_parted(start, left, right));
+        holds(rt, is_parted(start, left, right));
     }
 }
 
@@ -89,10 +88,10 @@ fn count_parted(shares: &Shares, seen: &mut Seen) {
 
 /// Asserts that a branch holds in its table, and in no other model.
 fn is_alone(rt: &impl Abort, held: &[bool], models: &[Table], table: &Table) {
-    assert!(rt; held.contains(&true));
+    holds(rt, held.contains(&true));
     for (place, model) in models.iter().enumerate() {
         let is_table = model.as_slice() == table.as_slice();
-        assert_eq!(rt; is_table, is_at(held, place));
+        same(rt, &is_table, &is_at(held, place));
     }
 }
 
@@ -104,32 +103,30 @@ fn next(
     models: &[Table],
     is_left: bool,
     seen: &mut Seen,
-) -> Result<Option<Branch>, Fail>
+) -> Option<Branch>
     requires fits { Fits problem.now branch }
     requires tables_fit { All (IsTable (world_of_problem problem.now)) models.now }
-    ensures { IfOk result (λ found. IfSome found (Fits problem.now)) }
+    ensures { IfSome result (Fits problem.now) }
 {
-    let start = holding(rt.alloc(), problem, &branch, models)?;
-    match stepped(rt.alloc(), problem, branch)? {
+    let start = holding(rt, problem, &branch, models);
+    match stepped(rt, problem, branch) {
         Stepped::Closed(_) => {
             ends_closed(rt, start.as_slice(), seen);
-            Ok(None)
+            None
         }
         Stepped::Whole(leaf) => {
             ends_whole(rt, start.as_slice(), models, leaf.table(), seen);
-            Ok(None)
+            None
         }
         Stepped::Two(fork, _, _) => {
-            let chosen = parted(rt, problem, fork, models, start, is_left, seen)?;
-            Ok(Some(chosen))
+            Some(parted(rt, problem, fork, models, start, is_left, seen))
         }
     }
 }
 
 /// Asserts that a branch holds in no model.
 fn ends_closed(rt: &impl Abort, held: &[bool], seen: &mut Seen) {
-    let is_some = held.contains(&true);
-    assert!(rt; !is_some);
+    holds(rt, !held.contains(&true));
     seen.closed = seen.closed.saturating_add(1);
 }
 
@@ -147,15 +144,15 @@ fn parted(
     start: Vec<bool>,
     is_left: bool,
     seen: &mut Seen,
-) -> Result<Branch, Fail>
+) -> Branch
     requires of_problem { fork.problem ≡ problem.now }
     requires tables_fit { All (IsTable (world_of_problem problem.now)) models.now }
-    ensures { IfOk result (Fits problem.now) }
+    ensures { Fits problem.now result }
 {
-    let shares = shares_of(rt.alloc(), problem, &fork, models, start)?;
+    let shares = shares_of(rt, problem, &fork, models, start);
     parts(rt, &shares);
     count_parted(&shares, seen);
-    Ok(half(problem, fork, is_left))
+    half(problem, fork, is_left)
 }
 
 /// A path from the root to its end: each branch is lighter than the one before, so it ends within the root's weight.
@@ -165,19 +162,20 @@ fn path(
     models: &[Table],
     maker: &mut Maker,
     seen: &mut Seen,
-) -> Result<(), Fail>
+)
     requires { All (IsTable (world_of_problem problem.now)) models.now }
 {
-    let root = fitting_root(rt.alloc(), problem)?;
-    holds_in_all(rt, problem, &root, models)?;
-    let most = weight(rt.alloc(), problem, &root)?;
-    let has_ended = walk(rt, problem, root, models, most, maker, seen)?;
-    assert!(rt; has_ended);
-    Ok(())
+    let root = fitting_root(rt, problem);
+    holds_in_all(rt, problem, &root, models);
+    let most = weight(rt, problem, &root);
+    holds(
+        rt,
+        ends_within(rt, problem, root, models, most, maker, seen),
+    );
 }
 
 /// Whether a path from a branch ends within one step more than this many.
-fn walk(
+fn ends_within(
     rt: &(impl Abort + AllocGlobal),
     problem: &Problem,
     root: Branch,
@@ -185,18 +183,18 @@ fn walk(
     most: u64,
     maker: &mut Maker,
     seen: &mut Seen,
-) -> Result<bool, Fail>
+) -> bool
     requires fits { Fits problem.now root }
     requires tables_fit { All (IsTable (world_of_problem problem.now)) models.now }
 {
     let mut branch = root;
     for _step in 0..most.saturating_add(1) {
-        match next_lighter(rt, problem, branch, models, maker, seen)? {
+        match next_lighter(rt, problem, branch, models, maker, seen) {
             Some(chosen) => branch = chosen,
-            None => return Ok(true),
+            None => return true,
         }
     }
-    Ok(false)
+    false
 }
 
 /// One step, to a half that is lighter where the branch is parted.
@@ -207,18 +205,18 @@ fn next_lighter(
     models: &[Table],
     maker: &mut Maker,
     seen: &mut Seen,
-) -> Result<Option<Branch>, Fail>
+) -> Option<Branch>
     requires fits { Fits problem.now branch }
     requires tables_fit { All (IsTable (world_of_problem problem.now)) models.now }
-    ensures { IfOk result (λ found. IfSome found (Fits problem.now)) }
+    ensures { IfSome result (Fits problem.now) }
 {
-    let before = weight(rt.alloc(), problem, &branch)?;
+    let before = weight(rt, problem, &branch);
     let is_left = maker.number(2) == 0;
-    let found = next(rt, problem, branch, models, is_left, seen)?;
+    let found = next(rt, problem, branch, models, is_left, seen);
     if let Some(chosen) = &found {
-        is_lighter(rt, problem, chosen, before)?;
+        holds(rt, weight(rt, problem, chosen) < before);
     }
-    Ok(found)
+    found
 }
 
 fn holds_in_all(
@@ -226,76 +224,40 @@ fn holds_in_all(
     problem: &Problem,
     branch: &Branch,
     models: &[Table],
-) -> Result<(), Fail>
+)
     requires fits { Fits problem.now branch.now }
     requires tables_fit { All (IsTable (world_of_problem problem.now)) models.now }
 {
-    let held = holding(rt.alloc(), problem, branch, models)?;
-    let lacks_one = held.contains(&false);
-    assert!(rt; !lacks_one);
-    Ok(())
-}
-
-fn is_lighter(
-    rt: &(impl Abort + AllocGlobal),
-    problem: &Problem,
-    branch: &Branch,
-    before: u64,
-) -> Result<(), Fail> {
-    let after = weight(rt.alloc(), problem, branch)?;
-    assert!(rt; after < before);
-    Ok(())
+    let held = holding(rt, problem, branch, models);
+    holds(rt, !held.contains(&false));
 }
 
 /// The text of a made given history that leaves few tables.
-fn made_open_text(
-    rt: &(impl Abort + AllocGlobal),
-    maker: &mut Maker,
-    spec: &[u8],
-) -> Result<Bytes, Fail> {
-    let spec = read_spec(rt.alloc(), spec)?;
+fn made_open_text(rt: &(impl Abort + AllocGlobal), maker: &mut Maker, spec: &str) -> Bytes {
+    let spec = read_spec(rt.alloc(), spec.as_bytes()).expect(rt, spec);
     let chance = 1 + maker.number(4);
-    let given = made_open_given(rt.alloc(), maker, &spec, 64, chance)?;
-    let text = given_text(rt.alloc(), &spec, &given)?;
-    Ok(text)
+    let given = made_open_given(rt, maker, &spec, 64, chance);
+    given_text(rt.alloc(), &spec, &given).expect(rt, "memory")
 }
 
 /// A made problem, with such a history.
-fn made_problem(
-    rt: &(impl Abort + AllocGlobal),
-    maker: &mut Maker,
-    number: u64,
-) -> Result<Problem, Fail> {
-    let text = made_small_spec(rt.alloc(), number)?;
-    let history = made_open_text(rt, maker, text.as_bytes())?;
-    problem_of(rt.alloc(), text.as_bytes(), history.as_slice())
+fn made_problem(rt: &(impl Abort + AllocGlobal), maker: &mut Maker, number: u64) -> Problem {
+    let text = made_small_spec(rt, number);
+    let history = made_open_text(rt, maker, text.as_str());
+    problem_of(rt, text.as_str(), history.as_slice())
 }
 
 /// Two paths of a made problem.
-fn check_problem(
-    rt: &(impl Abort + AllocGlobal),
-    number: u64,
-    seen: &mut Seen,
-) -> Result<(), Fail> {
+fn check_problem(rt: &(impl Abort + AllocGlobal), number: u64, seen: &mut Seen) {
     let mut maker = Maker::new(number);
-    let problem = made_problem(rt, &mut maker, number)?;
-    two_paths(rt, &problem, &mut maker, seen)
-}
-
-fn two_paths(
-    rt: &(impl Abort + AllocGlobal),
-    problem: &Problem,
-    maker: &mut Maker,
-    seen: &mut Seen,
-) -> Result<(), Fail> {
-    let models = models_of(rt, problem)?;
-    path(rt, problem, models.as_slice(), maker, seen)?;
-    path(rt, problem, models.as_slice(), maker, seen)?;
-    Ok(())
+    let problem = made_problem(rt, &mut maker, number);
+    let models = models_of(rt, &problem);
+    path(rt, &problem, models.as_slice(), &mut maker, seen);
+    path(rt, &problem, models.as_slice(), &mut maker, seen);
 }
 
 #[test]
-fn paths_keep_the_models(rt: HostRuntime) -> Result<(), Fail> {
+fn paths_keep_the_models(rt: HostRuntime) {
     let mut seen = Seen {
         closed: 0,
         whole: 0,
@@ -303,9 +265,8 @@ fn paths_keep_the_models(rt: HostRuntime) -> Result<(), Fail> {
         shared: 0,
     };
     for number in 0_u64..1200 {
-        check_problem(&rt, number, &mut seen)?;
+        check_problem(&rt, number, &mut seen);
     }
-    assert!(rt; seen.closed >= 800 && seen.whole >= 400);
-    assert!(rt; seen.kept >= 150 && seen.shared >= 1000);
-    Ok(())
+    holds(&rt, seen.closed >= 800 && seen.whole >= 400);
+    holds(&rt, seen.kept >= 150 && seen.shared >= 1000);
 }

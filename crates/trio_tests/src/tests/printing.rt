@@ -1,13 +1,12 @@
 //! Texts that are printed, against texts that are written by hand.
-ghost use Rattle.std.specs.Prelude.{◌≡◌, ◌++◌, ◌∷◌, [], IfOk, OnOk};
+ghost use Rattle.std.specs.Prelude.{◌≡◌, ◌++◌, ◌∷◌, []};
 ghost use Rattle.trio_types.specs.Verdict.{world_of};
 ghost use Rattle.trio_types.specs.Cells.{IsTable};
 
+use super::claims::same;
 use super::tables::read_table;
 use history_table::{Table, Tables, given_text, list_text, read_history, table_text};
-use std::alloc::AllocError;
 use std::process::Abort;
-use std::test::Fail;
 use trio_reader::{read_spec, spec_text};
 use trio_types::{Bytes, Spec};
 
@@ -85,93 +84,84 @@ p: 1 1 1
 ";
 
 /// Asserts what is printed of a specification.
-fn spec_is_printed(rt: &(impl Abort + AllocGlobal), text: &str, want: &str) -> Result<(), Fail> {
-    let spec = read_spec(rt.alloc(), text.as_bytes())?;
-    let printed = spec_text(rt.alloc(), &spec)?;
-    assert_eq!(rt; printed.as_slice(), want.as_bytes());
-    Ok(())
+fn spec_is_printed(rt: &(impl Abort + AllocGlobal), text: &str, want: &str) {
+    let spec = read_spec(rt.alloc(), text.as_bytes()).expect(rt, "specification");
+    let printed = spec_text(rt.alloc(), &spec).expect(rt, "memory");
+    same(rt, &printed.as_slice(), &want.as_bytes());
 }
 
 #[test]
-fn specifications_as_they_are_printed(rt: HostRuntime) -> Result<(), Fail> {
-    spec_is_printed(&rt, SPEC, PRINTED_SPEC)?;
-    spec_is_printed(&rt, SPEC_OF_OPERATORS, PRINTED_SPEC_OF_OPERATORS)
+fn specifications_as_they_are_printed(rt: HostRuntime) {
+    spec_is_printed(&rt, SPEC, PRINTED_SPEC);
+    spec_is_printed(&rt, SPEC_OF_OPERATORS, PRINTED_SPEC_OF_OPERATORS);
+}
+
+/// Asserts of each item whether it is an input.
+fn inputs_are(rt: &impl Abort, spec: &Spec, wanted: &[bool]) {
+    same(rt, &spec.items.len(), &wanted.len());
+    for (item, want) in spec.items.as_slice().iter().zip(wanted) {
+        same(rt, &item.input, want);
+    }
 }
 
 /// Which items are inputs: no command tells, and texts are printed by the words by which they are read.
 #[test]
-fn inputs_are_told_from_items(rt: HostRuntime) -> Result<(), Fail> {
-    let alloc = rt.alloc();
-    let spec = read_spec(
-        alloc,
-        b"time 1; item p : bool; input q : bool; item r : bool;",
-    )?;
-    let mut inputs = Vec::new(alloc);
-    for item in spec.items.as_slice() {
-        inputs.push(item.input)?;
-    }
-    assert_eq!(rt; inputs.as_slice(), [false, true, false].as_slice());
-    Ok(())
+fn inputs_are_told_from_items(rt: HostRuntime) {
+    let text = "time 1; item p : bool; input q : bool; item r : bool;";
+    let spec = read_spec(rt.alloc(), text.as_bytes()).expect(&rt, text);
+    inputs_are(&rt, &spec, &[false, true, false]);
 }
 
 /// Asserts what is printed of a given history.
-fn given_is_printed(rt: &(impl Abort + AllocGlobal), spec: &Spec) -> Result<(), Fail> {
-    let given = read_history(rt.alloc(), spec, GIVEN.as_bytes())?;
-    let text = given_text(rt.alloc(), spec, &given)?;
-    assert_eq!(rt; text.as_slice(), PRINTED_GIVEN.as_bytes());
-    Ok(())
+fn given_is_printed(rt: &(impl Abort + AllocGlobal), spec: &Spec) {
+    let given = read_history(rt.alloc(), spec, GIVEN.as_bytes()).expect(rt, "history");
+    let text = given_text(rt.alloc(), spec, &given).expect(rt, "memory");
+    same(rt, &text.as_slice(), &PRINTED_GIVEN.as_bytes());
 }
 
 /// Asserts what is printed of a table.
-fn table_is_printed(rt: &(impl Abort + AllocGlobal), spec: &Spec) -> Result<(), Fail> {
-    let table = read_table(rt, spec, WHOLE)?;
-    let text = table_text(rt.alloc(), spec, &table)?;
-    assert_eq!(rt; text.as_slice(), PRINTED_TABLE.as_bytes());
-    Ok(())
-}
-
-fn rows_are_printed(rt: &(impl Abort + AllocGlobal), spec: &Spec) -> Result<(), Fail> {
-    given_is_printed(rt, spec)?;
-    table_is_printed(rt, spec)
+fn table_is_printed(rt: &(impl Abort + AllocGlobal), spec: &Spec) {
+    let table = read_table(rt, spec, WHOLE);
+    let text = table_text(rt.alloc(), spec, &table).expect(rt, "memory");
+    same(rt, &text.as_slice(), &PRINTED_TABLE.as_bytes());
 }
 
 #[test]
-fn a_given_history_and_a_table_as_they_are_printed(rt: HostRuntime) -> Result<(), Fail> {
-    let spec = read_spec(rt.alloc(), ROWS.as_bytes())?;
-    rows_are_printed(&rt, &spec)
+fn a_given_history_and_a_table_as_they_are_printed(rt: HostRuntime) {
+    let spec = read_spec(rt.alloc(), ROWS.as_bytes()).expect(&rt, ROWS);
+    given_is_printed(&rt, &spec);
+    table_is_printed(&rt, &spec);
 }
 
 /// The text of the list of the tables that these texts are.
-fn listed(rt: &(impl Abort + AllocGlobal), spec: &Spec, texts: &[&str]) -> Result<Bytes, Fail> {
+fn listed(rt: &(impl Abort + AllocGlobal), spec: &Spec, texts: &[&str]) -> Bytes {
     let mut tables = Tables::new(rt.alloc());
     for text in texts {
-        let table = read_table(rt, spec, text)?;
-        add_table(&mut tables, table)?;
+        let table = read_table(rt, spec, text);
+        add_table(rt, &mut tables, table);
     }
-    let text = list_text(rt.alloc(), spec, &tables)?;
-    Ok(text)
+    list_text(rt.alloc(), spec, &tables).expect(rt, "memory")
 }
 
-fn add_table(tables: &mut Tables, table: Table) -> Result<(), AllocError>
-    ensures { OnOk result (tables.new ≡ tables.old ++ table ∷ []) }
+fn add_table(rt: &impl Abort, tables: &mut Tables, table: Table)
+    ensures { tables.new ≡ tables.old ++ table ∷ [] }
 {
     match tables.push(table) {
-        Ok(()) => Ok(()),
-        Err((_, error)) => Err(error),
+        Ok(()) => {}
+        Err(_) => panic!(rt; "memory"),
     }
 }
 
-/// Asserts what is printed of four tables, and of none.
-fn lists_are_printed(rt: &(impl Abort + AllocGlobal), spec: &Spec) -> Result<(), Fail> {
-    let text = listed(rt, spec, &["p: 0 0 0", "p: 0 0 1", "p: 0 1 1", "p: 1 1 1"])?;
-    assert_eq!(rt; text.as_slice(), PRINTED_LIST.as_bytes());
-    let text = listed(rt, spec, &[])?;
-    assert_eq!(rt; text.as_slice(), b"histories 0\n".as_slice());
-    Ok(())
+/// Asserts what is printed of the list of these tables.
+fn list_is_printed(rt: &(impl Abort + AllocGlobal), spec: &Spec, texts: &[&str], want: &str) {
+    let text = listed(rt, spec, texts);
+    same(rt, &text.as_slice(), &want.as_bytes());
 }
 
 #[test]
-fn a_list_of_tables_as_it_is_printed(rt: HostRuntime) -> Result<(), Fail> {
-    let spec = read_spec(rt.alloc(), b"time 3; item p : bool;")?;
-    lists_are_printed(&rt, &spec)
+fn a_list_of_tables_as_it_is_printed(rt: HostRuntime) {
+    let spec = read_spec(rt.alloc(), b"time 3; item p : bool;").expect(&rt, "specification");
+    let texts = ["p: 0 0 0", "p: 0 0 1", "p: 0 1 1", "p: 1 1 1"];
+    list_is_printed(&rt, &spec, &texts, PRINTED_LIST);
+    list_is_printed(&rt, &spec, &[], "histories 0\n");
 }

@@ -2,7 +2,8 @@
 ghost use Rattle.std.specs.Prelude.{◌<◌, length};
 
 use super::maker::Maker;
-use std::alloc::{AllocError, Global};
+use super::texts::Text;
+use std::process::Abort;
 
 const RELATIONS: [&str; 6] = [" = ", " != ", " < ", " <= ", " > ", " >= "];
 
@@ -90,53 +91,69 @@ enum End {
 #[derive(Drop)]
 struct SpecMaker {
     maker: Maker,
-    text: String,
+    text: Text,
     scope: u32,
 }
 
 /// The text of a specification.
-pub fn made_spec(alloc: Global, number: u64) -> Result<String, AllocError> {
+pub fn made_spec(rt: &(impl Abort + AllocGlobal), number: u64) -> String {
     let mut spec = SpecMaker {
         maker: Maker::new(number),
-        text: String::new(alloc),
+        text: Text::new(rt.alloc()),
         scope: 0,
     };
-    let instants = 1 + spec.number(4);
-    spec.declarations(alloc, instants)?;
-    let claims = 1 + spec.number(3);
-    for claim in 0..claims {
-        spec.claim(alloc, claim, instants)?;
-    }
+    spec.specification();
     let SpecMaker { text, .. } = spec;
-    Ok(text)
+    text.whole(rt)
 }
 
 /// The text of a specification of few cells, with one or two axioms at an instant each.
-pub fn made_small_spec(alloc: Global, number: u64) -> Result<String, AllocError> {
+pub fn made_small_spec(rt: &(impl Abort + AllocGlobal), number: u64) -> String {
     let mut spec = SpecMaker {
         maker: Maker::new(number.wrapping_mul(11_400_714_819_323_198_485)),
-        text: String::new(alloc),
+        text: Text::new(rt.alloc()),
         scope: 0,
     };
-    let instants = 1 + spec.number(3);
-    let time = format!(in alloc; "time {instants};\n")?;
-    spec.write(time.as_str())?;
-    spec.write(SMALL_DOMAINS)?;
-    spec.write(ITEMS)?;
-    let axioms = 1 + spec.number(2);
-    for axiom in 0..axioms {
-        let instant = spec.number(instants);
-        let head = format!(in alloc; "axiom A{axiom} at {instant} : ")?;
-        spec.write(head.as_str())?;
-        let depth = 1 + spec.number(3);
-        spec.formula(depth as u32)?;
-        spec.write(";\n")?;
-    }
+    spec.small_specification();
     let SpecMaker { text, .. } = spec;
-    Ok(text)
+    text.whole(rt)
 }
 
 impl SpecMaker {
+    fn specification(&mut self) {
+        let instants = 1 + self.number(4);
+        self.declarations(instants);
+        let claims = 1 + self.number(3);
+        for claim in 0..claims {
+            self.claim(claim, instants);
+        }
+    }
+
+    fn small_specification(&mut self) {
+        let instants = 1 + self.number(3);
+        self.write("time ");
+        self.text.put_value(instants);
+        self.write(";\n");
+        self.write(SMALL_DOMAINS);
+        self.write(ITEMS);
+        let axioms = 1 + self.number(2);
+        for axiom in 0..axioms {
+            self.small_axiom(axiom, instants);
+        }
+    }
+
+    fn small_axiom(&mut self, axiom: usize, instants: usize)
+        requires { 0 < instants }
+    {
+        let instant = self.number(instants);
+        self.write("axiom A");
+        self.text.put_value(axiom);
+        self.instant(instant);
+        let depth = 1 + self.number(3);
+        self.formula(depth as u32);
+        self.write(";\n");
+    }
+
     fn number(&mut self, below: usize) -> usize
         requires { 0 < below }
         ensures { result < below }
@@ -144,12 +161,12 @@ impl SpecMaker {
         self.maker.number(below)
     }
 
-    fn write(&mut self, text: &str) -> Result<(), AllocError> {
-        self.text.push_str(text)
+    fn write(&mut self, text: &str) {
+        self.text.put(text);
     }
 
     /// Writes one of these texts.
-    fn one_of(&mut self, texts: &[&str]) -> Result<(), AllocError>
+    fn one_of(&mut self, texts: &[&str])
         requires { 0 < length texts.now }
     {
         let number = self.number(texts.len());
@@ -163,53 +180,63 @@ impl SpecMaker {
         self.scope & (1 << variable) != 0
     }
 
-    fn declarations(&mut self, alloc: Global, instants: usize) -> Result<(), AllocError> {
-        let time = format!(in alloc; "time {instants};\nitem p : bool;\n")?;
-        self.write(time.as_str())?;
+    fn declarations(&mut self, instants: usize) {
+        self.write("time ");
+        self.text.put_value(instants);
+        self.write(";\nitem p : bool;\n");
         let words = "domain m = {red, green};\n";
         let more_words = "domain m = {red, green, blue};\n";
-        self.one_of(&[words, more_words])?;
+        self.one_of(&[words, more_words]);
         self.one_of(&[
             "domain d = -1..1;\n",
             "domain d = 0..1;\n",
             "domain d = -2..-2;\n",
-        ])?;
-        self.one_of(&["domain e = 0..1;", "domain e = 1 .. 2 ;", "domain e=-1..0;"])?;
-        self.write(ITEMS)
+        ]);
+        self.one_of(&["domain e = 0..1;", "domain e = 1 .. 2 ;", "domain e=-1..0;"]);
+        self.write(ITEMS);
     }
 
     /// An axiom or a goal.
-    fn claim(&mut self, alloc: Global, number: usize, instants: usize) -> Result<(), AllocError>
+    fn claim(&mut self, number: usize, instants: usize)
         requires { 0 < instants }
     {
-        self.one_of(&["axiom ", "axiom ", "goal "])?;
+        self.one_of(&["axiom ", "axiom ", "goal "]);
         let instant = self.number(instants);
-        let head = if self.number(2) == 0 {
-            format!(in alloc; "A{number} : ")?
+        self.write("A");
+        self.text.put_value(number);
+        if self.number(2) == 0 {
+            self.write(" : ");
         } else {
-            format!(in alloc; "A{number} at {instant} : ")?
-        };
-        self.write(head.as_str())?;
-        self.formula(3)?;
-        self.write(";\n")
+            self.instant(instant);
+        }
+        self.formula(3);
+        self.write(";\n");
+    }
+
+    /// The instant of an axiom, and the sign behind it.
+    fn instant(&mut self, instant: usize) {
+        self.write(" at ");
+        self.text.put_value(instant);
+        self.write(" : ");
     }
 
     /// A formula with brackets in brackets at most so deep.
-    fn formula(&mut self, depth: u32) -> Result<(), AllocError> {
+    fn formula(&mut self, depth: u32) {
         if depth == 0 {
-            return self.leaf();
+            self.leaf();
+            return;
         }
         let shape = self.shape();
-        self.write(shape.word)?;
-        self.write("(")?;
-        self.formula(depth - 1)?;
+        self.write(shape.word);
+        self.write("(");
+        self.formula(depth - 1);
         if shape.parts > 1 {
-            self.write(shape.between)?;
-            self.formula(depth - 1)?;
+            self.write(shape.between);
+            self.formula(depth - 1);
         }
         if shape.parts > 2 {
-            self.write(shape.between)?;
-            self.formula(depth - 1)?;
+            self.write(shape.between);
+            self.formula(depth - 1);
         }
         self.end(shape.end)
     }
@@ -268,12 +295,12 @@ impl SpecMaker {
         }
     }
 
-    fn end(&mut self, end: End) -> Result<(), AllocError> {
+    fn end(&mut self, end: End) {
         match end {
             End::Bracket => {}
             End::Distance => {
-                self.write(", ")?;
-                self.side(false)?;
+                self.write(", ");
+                self.side(false);
             }
             End::Scope(outside) => self.scope = outside,
         }
@@ -281,54 +308,53 @@ impl SpecMaker {
     }
 
     /// A formula without brackets.
-    fn leaf(&mut self) -> Result<(), AllocError> {
-        self.one_of(&["", "", "!"])?;
-        self.atom()?;
+    fn leaf(&mut self) {
+        self.one_of(&["", "", "!"]);
+        self.atom();
         if self.number(2) == 0 {
-            self.one_of(&CONNECTIVES)?;
-            self.atom()?;
+            self.one_of(&CONNECTIVES);
+            self.atom();
         }
-        Ok(())
     }
 
-    fn atom(&mut self) -> Result<(), AllocError> {
+    fn atom(&mut self) {
         match self.number(6) {
             0 | 1 => self.truth(),
             2 => {
-                self.truth()?;
-                self.one_of(&[" = ", " != "])?;
+                self.truth();
+                self.one_of(&[" = ", " != "]);
                 self.truth()
             }
             3 => {
-                self.word()?;
-                self.one_of(&[" = ", " != "])?;
+                self.word();
+                self.one_of(&[" = ", " != "]);
                 self.word()
             }
             _ => {
-                self.side(true)?;
-                self.one_of(&RELATIONS)?;
+                self.side(true);
+                self.one_of(&RELATIONS);
                 self.side(true)
             }
         }
     }
 
     /// A term of kind bool.
-    fn truth(&mut self) -> Result<(), AllocError> {
+    fn truth(&mut self) {
         match self.number(5) {
             0 => self.plain_truth(),
             1 => self.write("p"),
             2 => self.write("[p]"),
             _ => {
-                self.write("q(")?;
-                self.side(false)?;
-                self.write(", ")?;
-                self.plain_word()?;
+                self.write("q(");
+                self.side(false);
+                self.write(", ");
+                self.plain_word();
                 self.write(")")
             }
         }
     }
 
-    fn plain_truth(&mut self) -> Result<(), AllocError> {
+    fn plain_truth(&mut self) {
         if self.in_scope(B) {
             self.write("b")
         } else {
@@ -337,18 +363,19 @@ impl SpecMaker {
     }
 
     /// A term of the kind of words.
-    fn word(&mut self) -> Result<(), AllocError> {
+    fn word(&mut self) {
         if self.number(2) == 0 {
-            return self.plain_word();
+            self.plain_word();
+            return;
         }
-        self.write("w(")?;
-        self.plain_word()?;
-        self.write(", ")?;
-        self.plain_truth()?;
+        self.write("w(");
+        self.plain_word();
+        self.write(", ");
+        self.plain_truth();
         self.write(")")
     }
 
-    fn plain_word(&mut self) -> Result<(), AllocError> {
+    fn plain_word(&mut self) {
         if self.in_scope(C) {
             self.write("c")
         } else {
@@ -357,35 +384,35 @@ impl SpecMaker {
     }
 
     /// A term of kind number, as sums and products are written without brackets.
-    fn side(&mut self, reads: bool) -> Result<(), AllocError> {
-        self.one_of(&["", "", "-", "2 * ", "-3 * "])?;
-        self.factor(2, reads)?;
+    fn side(&mut self, reads: bool) {
+        self.one_of(&["", "", "-", "2 * ", "-3 * "]);
+        self.factor(2, reads);
         if self.number(3) == 0 {
-            self.one_of(&[" + ", " - ", " + 3 * "])?;
-            self.factor(1, reads)?;
+            self.one_of(&[" + ", " - ", " + 3 * "]);
+            self.factor(1, reads);
         }
-        Ok(())
     }
 
     /// A number, variable, read, or a term in brackets that are at most so deep.
-    fn factor(&mut self, depth: u32, reads: bool) -> Result<(), AllocError> {
+    fn factor(&mut self, depth: u32, reads: bool) {
         if depth == 0 {
-            return self.plain_number();
+            self.plain_number();
+            return;
         }
         match self.number(7) {
             0 => {
-                self.one_of(&["[", "[-", "[2 * ", "[3 - "])?;
-                self.factor(depth - 1, reads)?;
+                self.one_of(&["[", "[-", "[2 * ", "[3 - "]);
+                self.factor(depth - 1, reads);
                 self.write("]")
             }
             1 if reads => {
-                self.write("n(")?;
-                self.factor(depth - 1, false)?;
+                self.write("n(");
+                self.factor(depth - 1, false);
                 self.write(")")
             }
             2 if reads => {
-                self.write("r(")?;
-                self.factor(depth - 1, false)?;
+                self.write("r(");
+                self.factor(depth - 1, false);
                 self.other_arguments()
             }
             3 if reads => self.write("s"),
@@ -394,15 +421,15 @@ impl SpecMaker {
     }
 
     /// The other arguments of `r`.
-    fn other_arguments(&mut self) -> Result<(), AllocError> {
-        self.write(", ")?;
-        self.plain_truth()?;
-        self.write(", ")?;
-        self.plain_word()?;
+    fn other_arguments(&mut self) {
+        self.write(", ");
+        self.plain_truth();
+        self.write(", ");
+        self.plain_word();
         self.write(")")
     }
 
-    fn plain_number(&mut self) -> Result<(), AllocError> {
+    fn plain_number(&mut self) {
         match self.number(4) {
             0 | 1 if self.in_scope(X) => self.write("x"),
             2 if self.in_scope(Y) => self.write("y"),

@@ -1,16 +1,12 @@
 //! Worked rows of steps.
-ghost use Rattle.std.specs.Prelude.{IfOk};
 ghost use Rattle.branch_state.specs.Branches.{Fits};
 
 use super::branches::{branch_text, fitting_root, half, problem_of, step_text, stepped};
 use branch_state::{Branch, Problem};
 use decompose::Stepped;
-use std::alloc::{AllocError, Global};
 use std::process::Abort;
-use std::test::Fail;
 
 /// A specification and a given history; on a path of left and right halves from the root a branch, and what a step makes of it.
-#[derive(Clone, Copy)]
 struct Row {
     spec: &'static str,
     given: &'static str,
@@ -438,105 +434,82 @@ const ENDS: [Row; 11] = [
 ];
 
 /// Asserts what stands at the end of a path, and what a step makes of it.
-fn check_row(rt: &(impl Abort + AllocGlobal), row: Row) -> Result<(), Fail> {
-    let problem = problem_of(rt.alloc(), row.spec.as_bytes(), row.given.as_bytes())?;
-    check_path(rt, &problem, row)
+fn check_row(rt: &(impl Abort + AllocGlobal), row: &Row) {
+    let problem = problem_of(rt, row.spec, row.given.as_bytes());
+    let branch = at_end(rt, &problem, row.path.as_bytes());
+    check_step(rt, &problem, branch, row);
 }
 
-fn check_path(rt: &(impl Abort + AllocGlobal), problem: &Problem, row: Row) -> Result<(), Fail> {
-    let branch = at_end(rt, problem, row.path.as_bytes())?;
-    check_step(rt, problem, branch, row)
-}
-
-fn check_step(
-    rt: &(impl Abort + AllocGlobal),
-    problem: &Problem,
-    branch: Branch,
-    row: Row,
-) -> Result<(), Fail>
+fn check_step(rt: &(impl Abort + AllocGlobal), problem: &Problem, branch: Branch, row: &Row)
     requires { Fits problem.now branch }
 {
-    let before = branch_text(rt.alloc(), &branch)?;
+    let before = branch_text(rt, &branch);
     is_text(rt, row, before.as_str(), row.branch);
-    let after = text_of_step(rt.alloc(), problem, branch)?;
+    let answer = stepped(rt, problem, branch);
+    let after = step_text(rt, &answer);
     is_text(rt, row, after.as_str(), row.step);
-    Ok(())
 }
 
-fn text_of_step(alloc: Global, problem: &Problem, branch: Branch) -> Result<String, AllocError>
-    requires { Fits problem.now branch }
-{
-    let answer = stepped(alloc, problem, branch)?;
-    let text = step_text(alloc, &answer)?;
-    Ok(text)
-}
-
-fn is_text(rt: &impl Abort, row: Row, text: &str, want: &str) {
+fn is_text(rt: &impl Abort, row: &Row, text: &str, want: &str) {
     let path = row.path;
     let spec = row.spec;
     assert_eq!(rt; text, want, "{spec} {path}");
 }
 
 /// The branch at the end of a path.
-fn at_end(rt: &(impl Abort + AllocGlobal), problem: &Problem, path: &[u8]) -> Result<Branch, Fail>
-    ensures { IfOk result (Fits problem.now) }
+fn at_end(rt: &(impl Abort + AllocGlobal), problem: &Problem, path: &[u8]) -> Branch
+    ensures { Fits problem.now result }
 {
-    let mut branch = fitting_root(rt.alloc(), problem)?;
+    let mut branch = fitting_root(rt, problem);
     for turn in path {
-        branch = next(rt, problem, branch, *turn == b'l')?;
+        branch = next(rt, problem, branch, *turn == b'l');
     }
-    Ok(branch)
+    branch
 }
 
 /// The left or the right half of a branch that is parted.
-fn next(
-    rt: &(impl Abort + AllocGlobal),
-    problem: &Problem,
-    branch: Branch,
-    is_left: bool,
-) -> Result<Branch, Fail>
+fn next(rt: &(impl Abort + AllocGlobal), problem: &Problem, branch: Branch, is_left: bool) -> Branch
     requires { Fits problem.now branch }
-    ensures { IfOk result (Fits problem.now) }
+    ensures { Fits problem.now result }
 {
-    match stepped(rt.alloc(), problem, branch)? {
-        Stepped::Two(fork, _, _) => Ok(half(problem, fork, is_left)),
+    match stepped(rt, problem, branch) {
+        Stepped::Two(fork, _, _) => half(problem, fork, is_left),
         _ => panic!(rt; "a path is too long"),
     }
 }
 
-fn check_rows(rt: &(impl Abort + AllocGlobal), rows: &[Row]) -> Result<(), Fail> {
+fn check_rows(rt: &(impl Abort + AllocGlobal), rows: &[Row]) {
     for row in rows {
-        check_row(rt, *row)?;
+        check_row(rt, row);
     }
-    Ok(())
 }
 
 #[test]
-fn steps_where_a_value_lasts(rt: HostRuntime) -> Result<(), Fail> {
-    check_rows(&rt, &LASTING_ROWS)
+fn steps_where_a_value_lasts(rt: HostRuntime) {
+    check_rows(&rt, &LASTING_ROWS);
 }
 
 #[test]
-fn steps_at_connectives(rt: HostRuntime) -> Result<(), Fail> {
-    check_rows(&rt, &CONNECTIVES)
+fn steps_at_connectives(rt: HostRuntime) {
+    check_rows(&rt, &CONNECTIVES);
 }
 
 #[test]
-fn steps_at_quantifiers(rt: HostRuntime) -> Result<(), Fail> {
-    check_rows(&rt, &QUANTIFIERS)
+fn steps_at_quantifiers(rt: HostRuntime) {
+    check_rows(&rt, &QUANTIFIERS);
 }
 
 #[test]
-fn steps_at_distances(rt: HostRuntime) -> Result<(), Fail> {
-    check_rows(&rt, &DISTANCES)
+fn steps_at_distances(rt: HostRuntime) {
+    check_rows(&rt, &DISTANCES);
 }
 
 #[test]
-fn steps_at_atoms(rt: HostRuntime) -> Result<(), Fail> {
-    check_rows(&rt, &ATOMS)
+fn steps_at_atoms(rt: HostRuntime) {
+    check_rows(&rt, &ATOMS);
 }
 
 #[test]
-fn steps_without_wants_or_cells(rt: HostRuntime) -> Result<(), Fail> {
-    check_rows(&rt, &ENDS)
+fn steps_without_wants_or_cells(rt: HostRuntime) {
+    check_rows(&rt, &ENDS);
 }

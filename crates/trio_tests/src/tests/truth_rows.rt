@@ -2,7 +2,6 @@
 use super::sets::truth_under;
 use derived_ops::rewrite;
 use std::process::Abort;
-use std::test::Fail;
 use trio_core::Three::{self, False, True, Unknown};
 use trio_reader::read_spec;
 
@@ -114,34 +113,26 @@ const ROWS: [(&str, [u64; 3], Three); 23] = [
     ),
 ];
 
-fn check_row(
-    rt: &(impl Abort + AllocGlobal),
-    text: &str,
-    words: [u64; 3],
-    want: Three,
-) -> Result<(), Fail> {
+fn check_row(rt: &(impl Abort + AllocGlobal), text: &str, words: &[u64], want: Three) {
     let alloc = rt.alloc();
-    let text = format!(in alloc; "time {text}")?;
-    let spec = read_spec(alloc, text.as_bytes())?;
-    let core = rewrite(alloc, &spec)?;
-    let found = truth_under(alloc, &spec, &core, words.as_slice())?;
+    let text = format!(in alloc; "time {text}").expect(rt, "memory");
+    let spec = read_spec(alloc, text.as_bytes()).expect(rt, "specification");
+    let core = rewrite(alloc, &spec).expect(rt, "memory");
+    let found = truth_under(rt, &spec, &core, words);
     assert_eq!(rt; found, Some(want), "{text} {words:?}");
-    Ok(())
 }
 
 #[test]
-fn truth_where_a_value_lasts(rt: HostRuntime) -> Result<(), Fail> {
+fn truth_where_a_value_lasts(rt: HostRuntime) {
     let text = "3; item p : bool; axiom A : (Dist(true, 1) & p) -> Futr(p, 1);";
-    for (words, want) in LASTING {
-        check_row(&rt, text, words, want)?;
+    for (words, want) in &LASTING {
+        check_row(&rt, text, words.as_slice(), *want);
     }
-    Ok(())
 }
 
 #[test]
-fn truth_under_sets(rt: HostRuntime) -> Result<(), Fail> {
-    for (text, words, want) in ROWS {
-        check_row(&rt, text, words, want)?;
+fn truth_under_sets(rt: HostRuntime) {
+    for (text, words, want) in &ROWS {
+        check_row(&rt, text, words.as_slice(), *want);
     }
-    Ok(())
 }

@@ -1,14 +1,14 @@
 //! The weights of branches: what their sets have beside one value each, and the counts of their wants.
 use branch_state::{Branch, Core, Node, Problem, Want};
-use std::alloc::{AllocError, Global};
+use std::process::Abort;
 
 /// The weight of a branch.
-pub fn weight(alloc: Global, problem: &Problem, branch: &Branch) -> Result<u64, AllocError> {
+pub fn weight(rt: &(impl Abort + AllocGlobal), problem: &Problem, branch: &Branch) -> u64 {
     let core = problem.core();
-    let counts = counts_of(alloc, core)?;
+    let counts = counts_of(rt, core);
     let sets = sets_weight(branch.doms.as_slice());
     let wants = wants_weight(core, counts.as_slice(), branch.wants.as_slice());
-    Ok(sets.saturating_add(wants))
+    sets.saturating_add(wants)
 }
 
 fn sets_weight(sets: &[u64]) -> u64 {
@@ -36,13 +36,13 @@ fn want_weight(core: &Core, counts: &[u64], want: &Want) -> u64 {
 }
 
 /// The counts of the nodes in order.
-fn counts_of(alloc: Global, core: &Core) -> Result<Vec<u64>, AllocError> {
-    let mut counts = Vec::new(alloc);
+fn counts_of(rt: &(impl Abort + AllocGlobal), core: &Core) -> Vec<u64> {
+    let mut counts = Vec::new(rt.alloc());
     for node in core.nodes.as_slice() {
         let count = count_of(counts.as_slice(), 0, node);
-        counts.push(count)?;
+        counts.push(count).expect(rt, "memory");
     }
-    Ok(counts)
+    counts
 }
 
 /// The count of a node by those of the nodes before it; an Exists ranges over its values from this index on.

@@ -2,4 +2,4 @@
 use Rattle.trio_tests.proofs.tests.branches.fitting_root.Goals as goal
 
 pub returns : goal.returns
-returns c = rw c.in_ok-branch.ensures (c.root_represents_the_models.ensures c.args.problem.now c.core-core.ensures.posed).0
+returns g c = rw c.in-Ok.ensures (c.root_represents_the_models.ensures c.args.problem.now c.core-core.ensures.posed).0

@@ -1,5 +1,5 @@
 -- The halves of a fork fit its problem.
-use Rattle.std.proofs.Common.{◌≡◌, ap, ◌∙◌, subst}
+use Rattle.std.proofs.Common.{ap, ◌∙◌, subst}
 use Rattle.branch_state.specs.Posed.{Posed}
 use Rattle.branch_state.specs.Branches.{Fits}
 use Rattle.decompose.specs.Held.{ForkView}

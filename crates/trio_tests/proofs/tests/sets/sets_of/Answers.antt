@@ -11,7 +11,7 @@ use Rattle.trio_tests.proofs.OneMoreEntry.{one_more_entry}
 use Rattle.trio_tests.proofs.tests.sets.sets_of.Goals as goal
 
 pub loop-cell-init : goal.loop-cell-init
-loop-cell-init c =
+loop-cell-init g c =
     let w = world_of c.args.spec.now in (
       ap length c.new-sets.ensures,
       ap (λ s. list_all (λ p. is_set (cell_size w p.0) p.1) (zip (cells_of w) s)) c.new-sets.ensures
@@ -19,7 +19,7 @@ loop-cell-init c =
     )
 
 pub loop-cell-preserved : goal.loop-cell-preserved
-loop-cell-preserved c =
+loop-cell-preserved g c =
     let w = world_of c.args.spec.now in
     let sets = c.loop-cell.sets in
     let set = c.in-Some.word.now in
@@ -27,7 +27,7 @@ loop-cell-preserved c =
     let is : is_set size set ≡ true = search rules in
     let sized : option_map (cell_size w) (slice_get (cells_of w) (length sets)) ≡ Some size =
     ap (λ n. option_map (cell_size w) (slice_get (cells_of w) n)) c.loop-cell.invariant.0 ∙ c.cell_size.ensures in (
-      omega (arith, ap length c.in_ok-add_set.ensures, length-append sets (set ∷ []), c.loop-cell.invariant.0),
-      ap (λ s. list_all (λ p. is_set (cell_size w p.0) p.1) (zip (cells_of w) s)) c.in_ok-add_set.ensures
+      omega (arith, ap length c.add_set.ensures, length-append sets (set ∷ []), c.loop-cell.invariant.0),
+      ap (λ s. list_all (λ p. is_set (cell_size w p.0) p.1) (zip (cells_of w) s)) c.add_set.ensures
           ∙ one_more_entry is_set w sets size set c.loop-cell.invariant.1 sized is,
     )

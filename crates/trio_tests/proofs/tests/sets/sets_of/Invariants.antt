@@ -7,5 +7,5 @@ use Rattle.trio_core.specs.Sets.{is_set}
 use Rattle.trio_tests.proofs.tests.sets.sets_of.Given as goal
 
 abbrev pub invariant-loop-cell : goal.invariant-loop-cell
-invariant-loop-cell l =
+invariant-loop-cell g l =
     (length l.sets ≡ l.cell) × (list_all (λ p. is_set (cell_size (world_of l.spec) p.0) p.1) (zip (cells_of (world_of l.spec)) l.sets) ≡ true)

@@ -4,5 +4,5 @@ use Rattle.history_table.proofs.Tables.{table_fits}
 use Rattle.trio_tests.proofs.tests.tables.table_of.Goals as goal
 
 pub returns-in-Ok : goal.returns-in-Ok
-returns-in-Ok c =
+returns-in-Ok g c =
     table_fits (world_of c.args.spec.now) c.args.given.now c.whole.new.into c.requires c.in-Ok.ensures.ok
