@@ -83,6 +83,12 @@ pub record StaysSink (before now : SinkView) : Type 0 where
 abbrev pub Writes : SinkView → SinkView → List ℕ → Type 0
 Writes before now bytes = before.tells ≡ true → now.written ≡ before.written ++ bytes
 
+-- All the bytes were written, and no fault was counted.
+pub record WritesAll (before now : SinkView) (bytes : List ℕ) : Type 0 where
+  pub stays : StaysSink before now
+  pub written : Writes before now bytes
+  pub calm : now.faults ≡ before.faults
+
 -- A front of the bytes was written, and the rest was not.
 pub record WritesFront (before now : SinkView) (bytes : List ℕ) : Type 0 where
   pub front : List ℕ
@@ -92,14 +98,21 @@ pub record WritesFront (before now : SinkView) (bytes : List ℕ) : Type 0 where
 
 -- A write failed: it was counted, and a front of the bytes was written that is not the whole.
 pub record WritesPart (before now : SinkView) (bytes : List ℕ) : Type 0 where
+  pub stays : StaysSink before now
   pub counted : Rose before.faults now.faults
   pub front : WritesFront before now bytes
   pub unfinished : 0 < length front.rest
 
--- What a writing of these bytes did: all of them went out, or a write failed.
+-- What a writing of these bytes did: all of them went out and no write failed, or a write failed.
 abbrev pub Wrote : SinkView → SinkView → List ℕ → Result (Unit {0}) SinkFault → Type 0
-Wrote before now bytes (Ok done) = Writes before now bytes
+Wrote before now bytes (Ok done) = WritesAll before now bytes
 Wrote before now bytes (Err f) = WritesPart before now bytes
+
+-- What a bell is seen as: the seconds that it was armed with, how often it rang, and how many asks it left unanswered.
+pub record BellView : Type 0 where
+  pub armed : Option ℕ
+  pub rings : ℕ
+  pub quiet : ℕ
 
 -- What an ask does: it is true only at an armed bell whose count of rings rose; a false one may count as a quiet ask.
 abbrev pub Asked : Bool → Option ℕ → ℕ → ℕ → ℕ → ℕ → Type 0

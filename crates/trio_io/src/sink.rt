@@ -32,8 +32,7 @@ pub trait Sink {
 
 /// Writes all the bytes. After a fault a front of them went out, and not all. It takes no memory.
 pub fn write_whole<K: Sink>(sink: &mut K, bytes: &[u8]) -> Result<(), SinkFault>
-    ensures stays { StaysSink (K.seen sink.old) (K.seen sink.new) }
-    ensures wrote { Wrote (K.seen sink.old) (K.seen sink.new) bytes.now result }
+    ensures { Wrote (K.seen sink.old) (K.seen sink.new) bytes.now result }
 {
     let mut rest = bytes;
     while !rest.is_empty() {
@@ -45,8 +44,7 @@ pub fn write_whole<K: Sink>(sink: &mut K, bytes: &[u8]) -> Result<(), SinkFault>
 
 /// Writes the pieces one after another. After a fault a front of all of them went out, and not all. It takes no memory.
 pub fn write_pieces<K: Sink, P: AsSlice<u8>>(sink: &mut K, pieces: &[P]) -> Result<(), SinkFault>
-    ensures stays { StaysSink (K.seen sink.old) (K.seen sink.new) }
-    ensures wrote { Wrote (K.seen sink.old) (K.seen sink.new) (flat_map P.items pieces.now) result }
+    ensures { Wrote (K.seen sink.old) (K.seen sink.new) (flat_map P.items pieces.now) result }
 {
     for piece in pieces {
         write_whole(sink, piece.as_slice())?;

@@ -1,7 +1,7 @@
 -- What each status tells, from the clauses' definitions to words.
-use Rattle.std.proofs.Common.{◌≡◌, ◌⊎◌, ℕ, ◌<◌, inl, inr, true, List, Option, None, Some, Ok, Err, length, refl, sym, ap, subst, ◌∙◌, arith}
+use Rattle.std.proofs.Common.{◌≡◌, ◌⊎◌, ℕ, ◌+◌, ◌<◌, inl, inr, true, List, Option, None, Some, Ok, Err, length, refl, sym, ap, subst, ◌∙◌, arith}
 use Rattle.std.specs.Prelude.{map, IsSomeAnd}
-use Rattle.trio_io.specs.Outside.{ShelfView, SinkView, Rose}
+use Rattle.trio_io.specs.Outside.{ShelfView, SinkView}
 use Rattle.trio_types.specs.declared.spec.Spec.{Spec}
 use Rattle.trio_types.specs.World.{World}
 use Rattle.trio_types.specs.Laws.{FirstFalse}
@@ -14,27 +14,30 @@ use Rattle.history_table.specs.declared.fault.HistFault.TheVariants as history_f
 use Rattle.history_table.specs.Printed.{name_of_row}
 use Rattle.history_check.specs.declared.checker.Verdict.TheVariants as verdict
 use Rattle.history_check.specs.Answers.{verdict_of}
-use Rattle.trio_main.specs.declared.status.Status.TheVariants as status
-use Rattle.trio_main.specs.declared.fault.Text.{Text}
-use Rattle.trio_main.specs.declared.fault.Text.TheVariants as text
-use Rattle.trio_main.specs.declared.fault.Fault.{Fault}
-use Rattle.trio_main.specs.declared.fault.Fault.TheVariants as fault
-use Rattle.trio_main.specs.declared.command.Command.{Command}
-use Rattle.trio_main.specs.declared.command.Command.TheVariants as command
-use Rattle.trio_main.specs.Command.{files_read}
-use Rattle.trio_main.specs.Fault.{status_of, spec_refusal, history_refusal}
-use Rattle.trio_main.specs.Message.{message}
-use Rattle.trio_main.specs.Load.{most_bytes, FileFault, YieldsSpec, YieldsHistory, LoadFault}
-use Rattle.trio_main.specs.Check.{CheckFault, TellsTrue, TellsFalse}
+use Rattle.trio_jobs.specs.declared.status.Status.TheVariants as status
+use Rattle.trio_jobs.specs.declared.fault.Text.{Text}
+use Rattle.trio_jobs.specs.declared.fault.Text.TheVariants as text
+use Rattle.trio_jobs.specs.declared.fault.Fault.{Fault}
+use Rattle.trio_jobs.specs.declared.fault.Fault.TheVariants as fault
+use Rattle.trio_jobs.specs.declared.command.Command.{Command}
+use Rattle.trio_jobs.specs.declared.command.Command.TheVariants as command
+use Rattle.trio_jobs.specs.Call.{Call}
+use Rattle.trio_jobs.specs.Fault.{status_of, spec_refusal, history_refusal}
+use Rattle.trio_jobs.specs.Message.{message}
+use Rattle.trio_jobs.specs.Load.{most_bytes, FileFault, YieldsSpec, YieldsHistory, LoadFault, LoadReaches}
+use Rattle.trio_jobs.specs.Check.{CheckFault, TellsTrue, TellsFalse}
 use Rattle.trio_main.specs.Complete.{completions, TellsCompletions}
-use Rattle.trio_main.specs.Due.{Due}
-use Rattle.trio_main.specs.Tell.{IsAbsent, TellsUnread}
-use Rattle.trio_main.specs.Refusal.{TellsRefused}
+use Rattle.trio_main.specs.Due.{job_of}
+use Rattle.trio_main.specs.Tell.{IsFailed, IsAbsent, TellsUnread}
+use Rattle.trio_jobs.specs.Refusal.{TellsRefused}
 use Rattle.history_table.specs.FittingLaws.{FirstUnknownLaw}
-use Rattle.trio_main.specs.Told.{IsSpecFile, IsHistoryFile, SpecRefused, HistoryRefused, LoadRefused, CheckRefused, IsRead, IsNotThere, WroteUnread, CheckTrueLaw, CheckFalseLaw, CheckRefusedLaw, CompleteLaw, CompleteRefusedLaw, NeverFalseLaw, UsageLaw, UnreadLaw, UnwrittenLaw, MemoryLaw, TwoFilesLaw, SavesNoneLaw}
-use Rattle.trio_main.proofs.FileFaults.{read_status}
-use Rattle.trio_main.proofs.Checks.{verdict_read}
+use Rattle.trio_main.specs.Told.{IsSpecFile, IsHistoryFile, SpecRefused, HistoryRefused, LoadRefused, CheckRefused, IsRead, first_read, IsNotThere, IsFetchFailed, WroteUnread, CheckTrueLaw, CheckFalseLaw, CheckRefusedLaw, CompleteLaw, CompleteRefusedLaw, NeverFalseLaw, UsageLaw, UnreadLaw, UnwrittenLaw, MemoryLaw, NeverLaw, TwoFilesLaw, SavesNoneLaw}
+use Rattle.trio_jobs.proofs.FileFaults.{read_status}
+use Rattle.trio_jobs.proofs.Checks.{verdict_read}
 use Rattle.trio_main.proofs.Completions.{completions_law, completions_sorted}
+
+second_place : (further place : ℕ) → further ≡ 1 → place ≡ further + 1 → place ≡ 2
+second_place further place last is = omega (arith, last, is)
 
 spec_file : (shelf : ShelfView) (name : List ℕ) (spec : Spec) → shelf.tells ≡ true → YieldsSpec shelf name (Ok spec) → IsSpecFile shelf name spec
 spec_file shelf name spec told (inl x) = absurd (let wrong : Ok spec ≡ Err x.0 = x.1 in cc)
@@ -58,21 +61,21 @@ false_finds (Some p) number instant is =
     rw (numbers, instants) refl
 
 pub check_true : CheckTrueLaw
-check_true = λ before now s h old new shelf sink tells.
-    let x : TellsTrue before s h old new = tells s h refl in
+check_true = λ call s h old new shelf sink tells.
+    let x : TellsTrue call.before s h old new = tells s h refl in
     let none : first_false x.spec x.holds.table ≡ None = true_finds_none (first_false x.spec x.holds.table) x.holds.is in
     record {
       spec = x.spec;
       table = x.holds.table;
-      spec_file = spec_file before s x.spec shelf x.holds.loaded.first;
-      history_file = history_file before h x.spec (map Some x.holds.table) shelf x.holds.loaded.second;
+      spec_file = spec_file call.before s x.spec shelf x.holds.loaded.first;
+      history_file = history_file call.before h x.spec (map Some x.holds.table) shelf x.holds.loaded.second;
       each_true = none_is_true x.spec x.holds.table none;
-      written = x.written sink;
+      written = x.written.written sink;
     }
 
 pub check_false : CheckFalseLaw
-check_false = λ before now s h old new shelf sink tells.
-    let x : TellsFalse before s h old new = tells s h refl in
+check_false = λ call s h old new shelf sink tells.
+    let x : TellsFalse call.before s h old new = tells s h refl in
     let found : first_false x.spec x.fails.table ≡ Some (x.number, x.instant) =
     false_finds (first_false x.spec x.fails.table) x.number x.instant x.fails.is in
     let first : FirstFalse x.spec x.fails.table x.number x.instant = found_is_first x.spec x.fails.table x.number x.instant found in
@@ -81,37 +84,37 @@ check_false = λ before now s h old new shelf sink tells.
       table = x.fails.table;
       number = x.number;
       instant = x.instant;
-      spec_file = spec_file before s x.spec shelf x.fails.loaded.first;
-      history_file = history_file before h x.spec (map Some x.fails.table) shelf x.fails.loaded.second;
+      spec_file = spec_file call.before s x.spec shelf x.fails.loaded.first;
+      history_file = history_file call.before h x.spec (map Some x.fails.table) shelf x.fails.loaded.second;
       first = first;
-      written = rw first.stands at (x.written sink);
+      written = rw first.stands at (x.written.written sink);
     }
 
 pub complete_list : CompleteLaw
-complete_list = λ before now s h old new shelf sink tells.
-    let x : TellsCompletions before s h old new = tells s h refl in
+complete_list = λ call s h old new shelf sink tells.
+    let x : TellsCompletions call.before s h old new = tells s h refl in
     record {
       spec = x.lists.spec;
       given = x.lists.given;
       tables = completions x.lists.spec x.lists.given;
-      spec_file = spec_file before s x.lists.spec shelf x.lists.loaded.first;
-      history_file = history_file before h x.lists.spec x.lists.given shelf x.lists.loaded.second;
+      spec_file = spec_file call.before s x.lists.spec shelf x.lists.loaded.first;
+      history_file = history_file call.before h x.lists.spec x.lists.given shelf x.lists.loaded.second;
       each = completions_law x.lists.spec x.lists.given;
       in_order = completions_sorted x.lists.spec x.lists.given;
-      written = rw x.lists.is at (x.written sink);
+      written = rw x.lists.is at (x.written.written sink);
     }
 
 pub never_false : NeverFalseLaw
-never_false = λ before now s h old new shelf sink tells. tells s h refl
+never_false = λ call s h old new shelf sink tells. tells s h refl
 
 pub usage : UsageLaw
-usage = λ asked before now old new shelf sink x. (x.no_command, x.written sink)
+usage = λ asked call old new shelf sink x. (x.no_command, x.kept, x.written.written sink)
 
 pub memory : MemoryLaw
-memory = λ asked before now old new shelf sink x. x sink
+memory = λ asked call old new shelf sink x. (x.kept, x.written.written sink)
 
 pub unwritten : UnwrittenLaw
-unwritten = λ asked before now old new shelf sink x. record {
+unwritten = λ asked call old new shelf sink x. record {
   counted = x.part.counted;
   status = x.status;
   front = x.part.front.front;
@@ -150,14 +153,14 @@ no_history world shelf name told (inr x) = absurd (history_is_no_read world x.sa
 none_of_two : (shelf : ShelfView) (s h : List ℕ) (n : ℕ) → shelf.tells ≡ true → LoadFault shelf s h n fault.Read →
     (name : List ℕ) × ((name ≡ s) ⊎ (name ≡ h)) × (shelf.file name ≡ None)
 none_of_two shelf s h n told (inl x) = (s, inl refl, no_spec shelf s told x.1)
-none_of_two shelf s h n told (inr x) = (h, inr refl, no_history (world_of x.1.spec) shelf h told x.1.second)
+none_of_two shelf s h n told (inr x) = (h, inr refl, no_history (world_of x.value) shelf h told x.stops.1)
 
 check_none : (shelf : ShelfView) (s h : List ℕ) (n : ℕ) → shelf.tells ≡ true → CheckFault shelf s h n fault.Read →
     (name : List ℕ) × ((name ≡ s) ⊎ (name ≡ h)) × (shelf.file name ≡ None)
 check_none shelf s h n told (inl x) = none_of_two shelf s h n told x
 check_none shelf s h n told (inr x) = absurd (let is = x.1.unknown.is in cc)
 
-due_none : (c : Command) (shelf : ShelfView) (n : ℕ) (text : List ℕ) → shelf.tells ≡ true → Due (Some c) shelf n status.ReadFault text →
+due_none : (c : Command) (shelf : ShelfView) (n : ℕ) (text : List ℕ) → shelf.tells ≡ true → (job_of (Some c)).due shelf n status.ReadFault text →
     (name : List ℕ) × IsRead c name × (shelf.file name ≡ None)
 due_none (command.Check s h) shelf n text told (inl x) =
     check_none shelf s h n told (subst (CheckFault shelf s h n) (read_status x.named (sym x.status_is)) x.has)
@@ -166,19 +169,38 @@ due_none (command.Complete s h) shelf n text told (inl x) =
     none_of_two shelf s h n told (subst (LoadFault shelf s h n) (read_status x.named (sym x.status_is)) x.has)
 due_none (command.Complete s h) shelf n text told (inr x) = absurd (let wrong : status.ReadFault ≡ status.Done = x.status_is in cc)
 
-unread_cause : (c : Command) (before now : ShelfView) → before.tells ≡ true →
-    Rose before.counts.failed_fetches now.counts.failed_fetches ⊎ IsAbsent (Some c) before now (message fault.Read) →
-    Rose before.counts.failed_fetches now.counts.failed_fetches ⊎ IsNotThere c before now
-unread_cause c before now told (inl rose) = inl rose
-unread_cause c before now told (inr x) =
-    let there = due_none c before x.reads (message fault.Read) told x.due in
+-- the first file is still to be read, or it is a specification and the second is
+in_turn : (shelf : ShelfView) (s : List ℕ) (n : ℕ) → shelf.tells ≡ true → LoadReaches shelf s n →
+    (n ≡ 1) ⊎ ((n ≡ 2) × ((spec : Spec) × IsSpecFile shelf s spec))
+in_turn shelf s n told (inl x) = inl x.0
+in_turn shelf s n told (inr x) = inr (second_place x.further n x.stops.0 x.place_is, (x.value, spec_file shelf s x.value told x.read))
+
+reached_in_turn : (c : Command) (shelf : ShelfView) (n : ℕ) → shelf.tells ≡ true → (job_of (Some c)).reaches shelf n →
+    (n ≡ 1) ⊎ ((n ≡ 2) × ((spec : Spec) × IsSpecFile shelf (first_read c) spec))
+reached_in_turn (command.Check s h) shelf n told x = in_turn shelf s n told x
+reached_in_turn (command.Complete s h) shelf n told x = in_turn shelf s n told x
+
+unread_cause : (c : Command) (call : Call) → call.before.tells ≡ true → IsFailed (Some c) call ⊎ IsAbsent (Some c) call (message fault.Read) →
+    IsFetchFailed c call ⊎ IsNotThere c call
+unread_cause c call told (inl x) = inl (record {
+  counted = x.counted;
+  reads = x.reads;
+  fetched = x.fetched;
+  in_turn = reached_in_turn c call.before x.reads told x.reached;
+})
+unread_cause c call told (inr x) =
+    let there = due_none c call.before x.reads (message fault.Read) told x.due in
     inr (record { name = there.0; is_read = there.1; none = there.2; counted = x.counted })
 
-unread_told : (asked : Option Command) (before now : ShelfView) (old new : SinkView) → before.tells ≡ true → old.tells ≡ true →
-    TellsUnread asked before now old new → WroteUnread asked before now old new
-unread_told None before now old new shelf sink x = absurd (let none : 0 < files_read None = x.reads_files in omega arith)
-unread_told (Some c) before now old new shelf sink x =
-    record { c = c; is = refl; cause = unread_cause c before now shelf x.cause; written = x.written sink }
+no_usage_read : (call : Call) → IsFailed None call ⊎ IsAbsent None call (message fault.Read) → ⊥
+no_usage_read call (inl x) = x.reached
+no_usage_read call (inr x) = let wrong : status.ReadFault ≡ status.Usage = x.due.status_is in cc
+
+unread_told : (asked : Option Command) (call : Call) (old new : SinkView) → call.before.tells ≡ true → old.tells ≡ true →
+    TellsUnread asked call old new → WroteUnread asked call old new
+unread_told None call old new shelf sink x = absurd (no_usage_read call x.cause)
+unread_told (Some c) call old new shelf sink x =
+    record { c = c; is = refl; cause = unread_cause c call shelf x.cause; kept = x.kept; written = x.written.written sink }
 
 pub unread : UnreadLaw
 unread = unread_told
@@ -220,11 +242,11 @@ load_refused : (shelf : ShelfView) (s h : List ℕ) (n : ℕ) (f : Fault) → sh
 load_refused shelf s h n f told refused (inl x) = inl (x.0, spec_refused shelf s f told refused x.1)
 load_refused shelf s h n f told refused (inr x) =
     inr (
-      x.0,
+      second_place x.further n x.stops.0 x.place_is,
       record {
-        spec = x.1.spec;
-        spec_file = spec_file shelf s x.1.spec told x.1.first;
-        refused = history_refused (world_of x.1.spec) shelf h f told refused x.1.second;
+        spec = x.value;
+        spec_file = spec_file shelf s x.value told x.read;
+        refused = history_refused (world_of x.value) shelf h f told refused x.stops.1;
       },
     )
 
@@ -246,25 +268,27 @@ check_fault_refused law shelf s h n f told refused (inr x) =
     )
 
 pub check_refused : FirstUnknownLaw → CheckRefusedLaw
-check_refused law = λ before now s h old new shelf sink tells.
-    let x : TellsRefused (CheckFault before s h) before now old new = tells s h refl in
+check_refused law = λ call s h old new shelf sink tells.
+    let x : TellsRefused (CheckFault call.before s h) call old new = tells s h refl in
     record {
       reads = x.reads;
       text = message x.named;
-      why = check_fault_refused law before s h x.reads x.named shelf x.is_refusal x.is_first;
+      why = check_fault_refused law call.before s h x.reads x.named shelf x.is_refusal x.is_first;
       fetched = x.fetched;
-      written = x.written sink;
+      kept = x.kept;
+      written = x.written.written sink;
     }
 
 pub complete_refused : CompleteRefusedLaw
-complete_refused = λ before now s h old new shelf sink tells.
-    let x : TellsRefused (LoadFault before s h) before now old new = tells s h refl in
+complete_refused = λ call s h old new shelf sink tells.
+    let x : TellsRefused (LoadFault call.before s h) call old new = tells s h refl in
     record {
       reads = x.reads;
       text = message x.named;
-      why = load_refused before s h x.reads x.named shelf x.is_refusal x.is_first;
+      why = load_refused call.before s h x.reads x.named shelf x.is_refusal x.is_first;
       fetched = x.fetched;
-      written = x.written sink;
+      kept = x.kept;
+      written = x.written.written sink;
     }
 
 pub two_files : TwoFilesLaw
@@ -275,3 +299,6 @@ pub saves_none : SavesNoneLaw
 saves_none None = refl
 saves_none (Some (command.Check s h)) = refl
 saves_none (Some (command.Complete s h)) = refl
+
+pub never : NeverLaw
+never asked call old new = (λ x. x, λ x. x)

@@ -1,18 +1,20 @@
 -- `complete`: every complete history that extends a given one and makes the specification true.
 use Rattle.std.specs.Prelude.{◌≡◌, ℕ, ◌⊎◌, Bool, ◌&&◌, List, filter, Option, Some}
-use Rattle.trio_io.specs.Outside.{ShelfView, SinkView, Writes}
+use Rattle.trio_io.specs.Outside.{ShelfView, SinkView, WritesAll}
 use Rattle.trio_types.specs.declared.spec.Spec.{Spec}
 use Rattle.trio_types.specs.Verdict.{world_of, is_true_in}
 use Rattle.history_table.specs.Fitting.{extends}
 use Rattle.history_table.specs.Texts.{list_text}
 use Rattle.trio_types.specs.Tables.{all_tables}
-use Rattle.trio_main.specs.declared.status.Status.{Status}
-use Rattle.trio_main.specs.declared.status.Status.TheVariants as status
-use Rattle.trio_main.specs.declared.command.Command.{Command}
-use Rattle.trio_main.specs.declared.command.Command.TheVariants as command
-use Rattle.trio_main.specs.Message.{SaysFault}
-use Rattle.trio_main.specs.Load.{LoadFault, IsLoaded}
-use Rattle.trio_main.specs.Refusal.{TellsRefused}
+use Rattle.trio_jobs.specs.declared.status.Status.{Status}
+use Rattle.trio_jobs.specs.declared.status.Status.TheVariants as status
+use Rattle.trio_jobs.specs.declared.command.Command.{Command}
+use Rattle.trio_jobs.specs.declared.command.Command.TheVariants as command
+use Rattle.trio_jobs.specs.Message.{SaysFault}
+use Rattle.trio_jobs.specs.Call.{Call}
+use Rattle.trio_jobs.specs.Job.{Job}
+use Rattle.trio_jobs.specs.Load.{LoadFault, LoadReaches, IsLoaded}
+use Rattle.trio_jobs.specs.Refusal.{TellsRefused}
 
 -- a table extends the given history and makes the specification true
 abbrev pub completes : Spec → List (Option ℕ) → List ℕ → Bool
@@ -44,21 +46,33 @@ abbrev pub CompleteDue : ShelfView → List ℕ → List ℕ → ℕ → Status 
 CompleteDue shelf spec_name history_name reads s text =
     SaysFault (LoadFault shelf spec_name history_name reads) s text ⊎ IsCompleted shelf spec_name history_name reads s text
 
--- status 0: the list of completions was written
-pub record TellsCompletions (before : ShelfView) (spec_name history_name : List ℕ) (old new : SinkView) : Type 0 where
-  pub text : List ℕ
-  pub lists : IsCompletion before spec_name history_name text
-  pub written : Writes old new text
+-- what `complete` is to do
+abbrev pub complete_job : List ℕ → List ℕ → Job
+complete_job spec_name history_name = record {
+  due = λ shelf. CompleteDue shelf spec_name history_name;
+  reaches = λ shelf. LoadReaches shelf spec_name;
+}
 
--- what a status tells of `complete` and its files; the others are those of every command, and it never ends with status 1
-abbrev pub CompleteTells : ShelfView → ShelfView → List ℕ → List ℕ → SinkView → SinkView → Status → Type 0
-CompleteTells before now spec_name history_name old new status.Done = TellsCompletions before spec_name history_name old new
-CompleteTells before now spec_name history_name old new status.False = ⊥
-CompleteTells before now spec_name history_name old new status.Refused = TellsRefused (LoadFault before spec_name history_name) before now old new
-CompleteTells before now spec_name history_name old new s = Unit {0}
+-- status 0: the list of completions was written
+pub record TellsCompletions (shelf : ShelfView) (spec_name history_name : List ℕ) (old new : SinkView) : Type 0 where
+  pub text : List ℕ
+  pub lists : IsCompletion shelf spec_name history_name text
+  pub written : WritesAll old new text
+
+-- What a status tells of `complete` and its files. It finds nothing false, is never answered with the usage line, nor stopped, and saves nothing;
+-- what failed fetches, failed writes and want of memory tell is said of every command.
+abbrev pub CompleteTells : Call → List ℕ → List ℕ → SinkView → SinkView → Status → Type 0
+CompleteTells call spec_name history_name old new status.Done = TellsCompletions call.before spec_name history_name old new
+CompleteTells call spec_name history_name old new status.False = ⊥
+CompleteTells call spec_name history_name old new status.Usage = ⊥
+CompleteTells call spec_name history_name old new status.Stopped = ⊥
+CompleteTells call spec_name history_name old new status.Refused = TellsRefused (LoadFault call.before spec_name history_name) call old new
+CompleteTells call spec_name history_name old new status.ReadFault = Unit {0}
+CompleteTells call spec_name history_name old new status.WriteFault = Unit {0}
+CompleteTells call spec_name history_name old new status.Memory = Unit {0}
+CompleteTells call spec_name history_name old new status.SaveFault = ⊥
 
 -- what a status tells where the command is `complete`
-abbrev pub TellsComplete : Option Command → ShelfView → ShelfView → SinkView → SinkView → Status → Type 0
-TellsComplete asked before now old new s =
-    (spec_name history_name : List ℕ) → asked ≡ Some (command.Complete spec_name history_name) →
-    CompleteTells before now spec_name history_name old new s
+abbrev pub TellsComplete : Option Command → Call → SinkView → SinkView → Status → Type 0
+TellsComplete asked call old new s =
+    (spec_name history_name : List ℕ) → asked ≡ Some (command.Complete spec_name history_name) → CompleteTells call spec_name history_name old new s

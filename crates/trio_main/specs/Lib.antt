@@ -1,16 +1,5 @@
-pub mod Answer
-pub mod Check
-pub mod Command
 pub mod Complete
 pub mod Due
-pub mod Fault
 pub mod Laws
-pub mod Load
-pub mod Loading
-pub mod Message
-pub mod Refusal
-pub mod Row
-pub mod Status
 pub mod Tell
-pub mod Text
 pub mod Told

@@ -16,17 +16,19 @@ use Rattle.history_table.specs.FittingLaws.{IsFirstUnknown}
 use Rattle.history_table.specs.History.{IsGivenText, HasHistFault}
 use Rattle.history_table.specs.Printed.{name_of_row}
 use Rattle.history_table.specs.Texts.{list_text}
-use Rattle.trio_main.specs.declared.status.Status.{Status}
-use Rattle.trio_main.specs.declared.status.Status.TheVariants as status
-use Rattle.trio_main.specs.declared.command.Command.{Command}
-use Rattle.trio_main.specs.declared.command.Command.TheVariants as command
-use Rattle.trio_main.specs.Answer.{Answers}
-use Rattle.trio_main.specs.Check.{TellsCheck}
-use Rattle.trio_main.specs.Command.{files_named, saved_name}
-use Rattle.trio_main.specs.Fault.{spec_refusal, history_refusal}
+use Rattle.trio_jobs.specs.declared.status.Status.{Status}
+use Rattle.trio_jobs.specs.declared.status.Status.TheVariants as status
+use Rattle.trio_jobs.specs.declared.command.Command.{Command}
+use Rattle.trio_jobs.specs.declared.command.Command.TheVariants as command
+use Rattle.trio_jobs.specs.Answer.{Answers}
+use Rattle.trio_jobs.specs.Call.{Call, KeepsFiles}
+use Rattle.trio_jobs.specs.Check.{TellsCheck}
+use Rattle.trio_jobs.specs.Command.{files_named, saved_name}
+use Rattle.trio_jobs.specs.Fault.{spec_refusal, history_refusal}
 use Rattle.trio_main.specs.Complete.{TellsComplete}
 use Rattle.trio_main.specs.Laws.{IsTrueExtension}
-use Rattle.trio_main.specs.Message.{usage_line, message}
+use Rattle.trio_jobs.specs.Message.{usage_line, message}
+use Rattle.trio_main.specs.Due.{job_of}
 use Rattle.trio_main.specs.Tell.{Tells}
 
 -- the file of this name is the text of this specification
@@ -116,78 +118,92 @@ LoadRefused shelf s h reads text = ((reads ≡ 1) × SpecRefused shelf s text) �
 abbrev pub CheckRefused : ShelfView → List ℕ → List ℕ → ℕ → List ℕ → Type 0
 CheckRefused shelf s h reads text = LoadRefused shelf s h reads text ⊎ ((reads ≡ 2) × NamesUnknown shelf s h text)
 
--- the message of such a refusal was written, and no more calls of the shelf were counted than it has files
-pub record WroteRefusal (refused : ℕ → List ℕ → Type 0) (before now : ShelfView) (old new : SinkView) : Type 0 where
+-- the message of such a refusal was written, no more calls of the shelf were counted than it has files, and none changed
+pub record WroteRefusal (refused : ℕ → List ℕ → Type 0) (call : Call) (old new : SinkView) : Type 0 where
   pub reads : ℕ
   pub text : List ℕ
   pub why : refused reads text
-  pub fetched : now.counts.calls ≤ before.counts.calls + reads
+  pub fetched : call.now.counts.calls ≤ call.before.counts.calls + reads
+  pub kept : KeepsFiles call
   pub written : new.written ≡ old.written ++ text
 
 -- what holds of a status of `check`, and of `complete`, where shelf and sink tell
-abbrev pub OfCheck : Status → (ShelfView → ShelfView → List ℕ → List ℕ → SinkView → SinkView → Type 0) → Type 0
-OfCheck s says = (before now : ShelfView) (spec_name history_name : List ℕ) (old new : SinkView) → before.tells ≡ true → old.tells ≡ true →
-    TellsCheck (Some (command.Check spec_name history_name)) before now old new s → says before now spec_name history_name old new
+abbrev pub OfCheck : Status → (Call → List ℕ → List ℕ → SinkView → SinkView → Type 0) → Type 0
+OfCheck s says = (call : Call) (spec_name history_name : List ℕ) (old new : SinkView) → call.before.tells ≡ true → old.tells ≡ true →
+    TellsCheck (Some (command.Check spec_name history_name)) call old new s → says call spec_name history_name old new
 
-abbrev pub OfComplete : Status → (ShelfView → ShelfView → List ℕ → List ℕ → SinkView → SinkView → Type 0) → Type 0
-OfComplete s says = (before now : ShelfView) (spec_name history_name : List ℕ) (old new : SinkView) → before.tells ≡ true → old.tells ≡ true →
-    TellsComplete (Some (command.Complete spec_name history_name)) before now old new s → says before now spec_name history_name old new
+abbrev pub OfComplete : Status → (Call → List ℕ → List ℕ → SinkView → SinkView → Type 0) → Type 0
+OfComplete s says = (call : Call) (spec_name history_name : List ℕ) (old new : SinkView) → call.before.tells ≡ true → old.tells ≡ true →
+    TellsComplete (Some (command.Complete spec_name history_name)) call old new s → says call spec_name history_name old new
 
 abbrev pub CheckTrueLaw : Type 0
-CheckTrueLaw = OfCheck status.Done (λ before now s h old new. WroteTrue before s h old new)
+CheckTrueLaw = OfCheck status.Done (λ call s h old new. WroteTrue call.before s h old new)
 
 abbrev pub CheckFalseLaw : Type 0
-CheckFalseLaw = OfCheck status.False (λ before now s h old new. WroteFalse before s h old new)
+CheckFalseLaw = OfCheck status.False (λ call s h old new. WroteFalse call.before s h old new)
 
 abbrev pub CompleteLaw : Type 0
-CompleteLaw = OfComplete status.Done (λ before now s h old new. WroteList before s h old new)
+CompleteLaw = OfComplete status.Done (λ call s h old new. WroteList call.before s h old new)
 
 -- `complete` never ends with status 1
 abbrev pub NeverFalseLaw : Type 0
-NeverFalseLaw = OfComplete status.False (λ before now s h old new. ⊥)
+NeverFalseLaw = OfComplete status.False (λ call s h old new. ⊥)
 
 abbrev pub CheckRefusedLaw : Type 0
-CheckRefusedLaw = OfCheck status.Refused (λ before now s h old new. WroteRefusal (CheckRefused before s h) before now old new)
+CheckRefusedLaw = OfCheck status.Refused (λ call s h old new. WroteRefusal (CheckRefused call.before s h) call old new)
 
 abbrev pub CompleteRefusedLaw : Type 0
-CompleteRefusedLaw = OfComplete status.Refused (λ before now s h old new. WroteRefusal (LoadRefused before s h) before now old new)
+CompleteRefusedLaw = OfComplete status.Refused (λ call s h old new. WroteRefusal (LoadRefused call.before s h) call old new)
 
 -- one of the two files that the command reads is of this name
 abbrev pub IsRead : Command → List ℕ → Type 0
 IsRead (command.Check s h) name = (name ≡ s) ⊎ (name ≡ h)
 IsRead (command.Complete s h) name = (name ≡ s) ⊎ (name ≡ h)
 
+-- the name of the first of them
+abbrev pub first_read : Command → List ℕ
+first_read (command.Check s h) = s
+first_read (command.Complete s h) = s
+
 -- a file that the command reads is not there, and the absence was counted
-pub record IsNotThere (c : Command) (before now : ShelfView) : Type 0 where
+pub record IsNotThere (c : Command) (call : Call) : Type 0 where
   pub name : List ℕ
   pub is_read : IsRead c name
-  pub none : before.file name ≡ None
-  pub counted : Rose before.counts.absences now.counts.absences
+  pub none : call.before.file name ≡ None
+  pub counted : Rose call.before.counts.absences call.now.counts.absences
 
--- a file could not be read, for a cause that was counted
-pub record WroteUnread (asked : Option Command) (before now : ShelfView) (old new : SinkView) : Type 0 where
+-- A fetch failed, which was counted: at most one file was fetched, or the first is a specification and at most two were.
+pub record IsFetchFailed (c : Command) (call : Call) : Type 0 where
+  pub counted : Rose call.before.counts.failed_fetches call.now.counts.failed_fetches
+  pub reads : ℕ
+  pub fetched : call.now.counts.calls ≤ call.before.counts.calls + reads
+  pub in_turn : (reads ≡ 1) ⊎ ((reads ≡ 2) × ((spec : Spec) × IsSpecFile call.before (first_read c) spec))
+
+-- a file could not be read, for a cause that was counted, and none changed
+pub record WroteUnread (asked : Option Command) (call : Call) (old new : SinkView) : Type 0 where
   pub c : Command
   pub is : asked ≡ Some c
-  pub cause : Rose before.counts.failed_fetches now.counts.failed_fetches ⊎ IsNotThere c before now
+  pub cause : IsFetchFailed c call ⊎ IsNotThere c call
+  pub kept : KeepsFiles call
   pub written : new.written ≡ old.written ++ codes "fault read\n"
 
 -- a write failed, which was counted, and of the text of an answer with its cause a front went out that is not the whole
-pub record WroteFront (asked : Option Command) (before now : ShelfView) (old new : SinkView) : Type 0 where
+pub record WroteFront (asked : Option Command) (call : Call) (old new : SinkView) : Type 0 where
   pub counted : Rose old.faults new.faults
   pub status : Status
   pub front : List ℕ
   pub rest : List ℕ
-  pub answers : Answers asked before now status (front ++ rest)
+  pub answers : Answers (job_of asked) call status (front ++ rest)
   pub unfinished : 0 < length rest
   pub written : new.written ≡ old.written ++ front
 
 -- what holds of a status of any command, where shelf and sink tell
-abbrev pub OfAny : Status → (Option Command → ShelfView → ShelfView → SinkView → SinkView → Type 0) → Type 0
-OfAny s says = (asked : Option Command) (before now : ShelfView) (old new : SinkView) → before.tells ≡ true → old.tells ≡ true →
-    Tells asked before now old new s → says asked before now old new
+abbrev pub OfAny : Status → (Option Command → Call → SinkView → SinkView → Type 0) → Type 0
+OfAny s says = (asked : Option Command) (call : Call) (old new : SinkView) → call.before.tells ≡ true → old.tells ≡ true →
+    Tells asked call old new s → says asked call old new
 
 abbrev pub UsageLaw : Type 0
-UsageLaw = OfAny status.Usage (λ asked before now old new. (asked ≡ None) × (new.written ≡ old.written ++ usage_line))
+UsageLaw = OfAny status.Usage (λ asked call old new. (asked ≡ None) × KeepsFiles call × (new.written ≡ old.written ++ usage_line))
 
 abbrev pub UnreadLaw : Type 0
 UnreadLaw = OfAny status.ReadFault WroteUnread
@@ -196,7 +212,12 @@ abbrev pub UnwrittenLaw : Type 0
 UnwrittenLaw = OfAny status.WriteFault WroteFront
 
 abbrev pub MemoryLaw : Type 0
-MemoryLaw = OfAny status.Memory (λ asked before now old new. new.written ≡ old.written ++ codes "fault memory\n")
+MemoryLaw = OfAny status.Memory (λ asked call old new. KeepsFiles call × (new.written ≡ old.written ++ codes "fault memory\n"))
+
+-- no call ends stopped, or with a file that could not be saved
+abbrev pub NeverLaw : Type 0
+NeverLaw = (asked : Option Command) (call : Call) (old new : SinkView) →
+    (Tells asked call old new status.Stopped → ⊥) × (Tells asked call old new status.SaveFault → ⊥)
 
 -- each command has places for two files, and none saves a file yet
 abbrev pub TwoFilesLaw : Type 0

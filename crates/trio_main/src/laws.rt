@@ -1,6 +1,6 @@
 //! The law of completions, and what each status tells in words, as the contracts of functions that do nothing.
 ghost use Rattle.trio_main.specs.Laws.{CompletionsLaw, CompletionsOrder};
-ghost use Rattle.trio_main.specs.Told.{CheckTrueLaw, CheckFalseLaw, CheckRefusedLaw, CompleteLaw, CompleteRefusedLaw, NeverFalseLaw, UsageLaw, UnreadLaw, UnwrittenLaw, MemoryLaw, TwoFilesLaw, SavesNoneLaw};
+ghost use Rattle.trio_main.specs.Told.{CheckTrueLaw, CheckFalseLaw, CheckRefusedLaw, CompleteLaw, CompleteRefusedLaw, NeverFalseLaw, UsageLaw, UnreadLaw, UnwrittenLaw, MemoryLaw, NeverLaw, TwoFilesLaw, SavesNoneLaw};
 
 use history_table::given_values_stay_and_gaps_are_found;
 
@@ -28,12 +28,13 @@ pub fn complete_lists_the_true_extensions()
     ensures refused { CompleteRefusedLaw }
 {}
 
-/// The statuses 2, 5, 6 and 7 of any command tell their causes, and what was written.
+/// The statuses 2, 5, 6 and 7 of any command tell their causes, and what was written; 3 and 8 never come.
 pub fn statuses_tell_their_causes()
     ensures usage { UsageLaw }
     ensures unread { UnreadLaw }
     ensures unwritten { UnwrittenLaw }
     ensures memory { MemoryLaw }
+    ensures never { NeverLaw }
 {}
 
 /// Each command has places for two files, so a call fetches two at most; and none saves a file.

@@ -3,16 +3,8 @@
 
 ghost use Rattle.std.specs.Prelude.{◌≡◌, IfErr};
 
-mod answer;
-mod check;
-mod command;
 mod complete;
-mod fault;
 mod laws;
-mod listing;
-mod load;
-mod message;
-mod status;
 mod top;
 
 use std::process::ExitCode;
@@ -23,8 +15,8 @@ use trio_io::{FileShelf, OutSink, StillBell};
 #[cfg(test)]
 mod tests;
 
-use crate::status::Status;
 use crate::top::trio_plain;
+use trio_jobs::Status;
 
 /// The words behind the program's name. `Err` is want of memory; words that are no text count as none.
 fn words_given<R: Env + AllocGlobal>(rt: &R) -> Result<Vec<String>, Status>

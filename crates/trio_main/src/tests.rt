@@ -4,10 +4,10 @@ ghost use Rattle.std.specs.Prelude.{◌≡◌, ◌⊎◌, ◌++◌, ℕ, List, N
 ghost use Rattle.trio_io.specs.Outside.{Rose};
 ghost use Rattle.trio_io.specs.MemoryShelf.{sure_seen};
 ghost use Rattle.trio_io.specs.MemorySink.{mem_written, mem_faults};
-ghost use Rattle.trio_main.specs.declared.command.Command.{Command};
-ghost use Rattle.trio_main.specs.declared.status.Status.{Status};
+ghost use Rattle.trio_jobs.specs.declared.command.Command.{Command};
+ghost use Rattle.trio_jobs.specs.declared.status.Status.{Status};
 ghost use Rattle.trio_io.specs.Words.{word_bytes};
-ghost use Rattle.trio_main.specs.Command.{command_of};
+ghost use Rattle.trio_jobs.specs.Command.{command_of};
 ghost use Rattle.trio_main.specs.Due.{Due};
 
 mod complete_rows;

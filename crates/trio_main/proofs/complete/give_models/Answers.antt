@@ -4,8 +4,8 @@ use Rattle.std.proofs.Math.Path.{ap₂}
 use Rattle.history_table.specs.Texts.{list_text}
 use Rattle.trio_types.specs.Verdict.{world_of}
 use Rattle.branch_state.specs.Posed.{Posed}
-use Rattle.trio_main.specs.Answer.{GivesOrWants}
-use Rattle.trio_main.specs.declared.status.Status.TheVariants as status
+use Rattle.trio_jobs.specs.Answer.{GivesOrWants}
+use Rattle.trio_jobs.specs.declared.status.Status.TheVariants as status
 use Rattle.trio_main.proofs.Completions.{models_fit}
 use Rattle.trio_main.proofs.complete.give_models.Goals as goal
 

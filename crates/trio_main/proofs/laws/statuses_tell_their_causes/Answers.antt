@@ -1,5 +1,5 @@
 -- The answers to the goals of `statuses_tell_their_causes`.
-use Rattle.trio_main.proofs.Told.{usage, unread, unwritten, memory}
+use Rattle.trio_main.proofs.Told.{usage, unread, unwritten, memory, never}
 use Rattle.trio_main.proofs.laws.statuses_tell_their_causes.Goals as goal
 
 pub returns-clause-usage : goal.returns-clause-usage
@@ -13,3 +13,6 @@ returns-clause-unwritten c = unwritten
 
 pub returns-clause-memory : goal.returns-clause-memory
 returns-clause-memory c = memory
+
+pub returns-clause-never : goal.returns-clause-never
+returns-clause-never c = never

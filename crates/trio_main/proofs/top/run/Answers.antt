@@ -1,7 +1,7 @@
--- The usage line was said where the words are no command.
-use Rattle.std.proofs.Common.{ap, ◌∙◌, Err, inl}
-use Rattle.trio_main.specs.declared.status.Status.TheVariants as status
-use Rattle.trio_main.specs.Message.{usage_line}
+-- The usage line was said where the words are no command, and what was served is what the words ask for.
+use Rattle.std.proofs.Common.{ap, ◌∙◌, Err, inl, inr, refl, subst, sym}
+use Rattle.trio_jobs.specs.declared.status.Status.TheVariants as status
+use Rattle.trio_jobs.specs.Message.{usage_line}
 use Rattle.trio_main.proofs.Jobs.{usage_due}
 use Rattle.trio_main.proofs.top.run.Goals as goal
 
@@ -9,4 +9,4 @@ pub returns-in-Err-Usage-clause-answer : goal.returns-in-Err-Usage-clause-answer
 returns-in-Err-Usage-clause-answer g c =
     let none = c.read_words.ensures.usage (c.in-Err-Usage.is ∙ ap Err c.in-Err-Usage.field-0-is) in
     rw none
-    (status.Usage, usage_line, inl (usage_due (g.F.Shelf.seen c.args.shelf.now)), c.say_usage.ensures)
+    (λ bell. (status.Usage, usage_line, inl (usage_due (g.F.Shelf.seen c.args.shelf.now) bell), c.say_usage.ensures))

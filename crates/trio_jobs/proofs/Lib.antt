@@ -1,0 +1,11 @@
+pub mod CheckOne
+pub mod CheckTold
+pub mod Checks
+pub mod Facts
+pub mod FileFaults
+pub mod Jobs
+pub mod ListPieces
+pub mod Loaded
+pub mod Pieces
+pub mod Refused
+pub mod Yielded

@@ -1,0 +1,13 @@
+pub mod Answer
+pub mod Call
+pub mod Check
+pub mod Command
+pub mod Fault
+pub mod Job
+pub mod Load
+pub mod Loading
+pub mod Message
+pub mod Refusal
+pub mod Row
+pub mod Status
+pub mod Text
