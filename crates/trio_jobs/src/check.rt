@@ -12,7 +12,7 @@ ghost use Rattle.trio_jobs.specs.Text.{text_of};
 
 use crate::answer::{Answer, give};
 use crate::fault::Fault;
-use crate::load::{load_history, load_spec};
+use crate::loading::{load_history, load_spec};
 use crate::status::Status;
 use history_check::{Verdict, check};
 use history_table::{Given, Table, row_name};

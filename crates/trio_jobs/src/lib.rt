@@ -6,7 +6,7 @@ mod check;
 mod command;
 mod fault;
 mod listing;
-mod load;
+mod loading;
 mod message;
 mod status;
 
@@ -15,6 +15,6 @@ pub use check::job_check;
 pub use command::{Command, WordsFault, read_words};
 pub use fault::{Fault, Text};
 pub use listing::give_list;
-pub use load::{FileRefusal, HistoryFile, SpecFile, load, load_history_file, load_spec_file};
+pub use loading::{FileRefusal, HistoryFile, SpecFile, load, load_history_file, load_spec_file};
 pub use message::say;
 pub use status::Status;

@@ -23,4 +23,4 @@ pub returns-in-MissingRow : goal.returns-in-MissingRow
 returns-in-MissingRow g c = rw c.in-MissingRow.is c.write_numbered-in-MissingRow.ensures
 
 pub returns-in-Memory : goal.returns-in-Memory
-returns-in-Memory g c = rw c.in-Memory.is c.write_whole.ensures.wrote
+returns-in-Memory g c = rw c.in-Memory.is c.write_whole.ensures

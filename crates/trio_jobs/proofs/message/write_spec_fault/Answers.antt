@@ -23,4 +23,4 @@ pub returns-in-Range : goal.returns-in-Range
 returns-in-Range g c = rw c.in-Range.is c.write_numbered-in-Range.ensures
 
 pub returns-in-Memory : goal.returns-in-Memory
-returns-in-Memory g c = rw c.in-Memory.is c.write_whole.ensures.wrote
+returns-in-Memory g c = rw c.in-Memory.is c.write_whole.ensures

@@ -1,5 +1,5 @@
 //! Fetching files and reading them.
-ghost use Rattle.std.specs.Prelude.{◌≡◌, ◌≤◌, length, Some, IfOk, IfErr, IfSome, OnErr, position};
+ghost use Rattle.std.specs.Prelude.{◌≡◌, ◌<◌, ◌≤◌, length, Some, IfOk, IfErr, IfSome, position};
 ghost use Rattle.std.specs.Option.{option_map};
 ghost use Rattle.std.specs.Result.{result_map_both};
 ghost use Rattle.std.specs.Str.{bytes_eq};
@@ -199,12 +199,15 @@ fn asked_for(alloc: Global, spec: Spec, goal: Option<&Name>) -> Result<Spec, Fau
     let Some(name) = goal else {
         return Ok(spec);
     };
-    match goal_named(spec.goals.as_slice(), name.as_str()) {
-        Some(goal) => match with_goal(alloc, &spec, goal as u32) {
-            Ok(asked) => Ok(asked),
-            Err(AllocError) => Err(Fault::Memory),
-        },
-        None => Err(Fault::Goal),
+    let Some(goal) = goal_named(spec.goals.as_slice(), name.as_str()) else {
+        return Err(Fault::Goal);
+    };
+    let Ok(goal) = u32::try_from(goal) else {
+        return Err(Fault::Memory);
+    };
+    match with_goal(alloc, &spec, goal) {
+        Ok(asked) => Ok(asked),
+        Err(AllocError) => Err(Fault::Memory),
     }
 }
 
