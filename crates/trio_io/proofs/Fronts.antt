@@ -1,7 +1,7 @@
 -- Fronts of a text that goes out piece by piece.
 use Rattle.std.proofs.Common.{◌≡◌, ℕ, ◌<◌, List, [], ◌++◌, length, take, drop, refl, ◌∙◌, arith}
 use Rattle.std.proofs.lemmas.Grind.{common_steps}
-use Rattle.trio_io.specs.Outside.{SinkView, StaysSink, Rose, Writes, WritesFront, WritesPart}
+use Rattle.trio_io.specs.Outside.{SinkView, StaysSink, Rose, Writes, WritesAll, WritesFront, WritesPart}
 
 -- At first the front is empty.
 pub none_written : (now : SinkView) (bytes : List ℕ) → (w : WritesFront now now bytes) × (w.rest ≡ bytes)
@@ -38,15 +38,23 @@ part_written before mid now bytes rest stays w left rose wrote = record {
   unfinished = rw w.1 left;
 }
 
--- After the pieces so far, the next one went out too.
-pub next_written : (before mid now : SinkView) (done next : List ℕ) → StaysSink before mid → Writes before mid done → Writes mid now next
+-- what was written after what was written
+written_after : (before mid now : SinkView) (done next : List ℕ) → StaysSink before mid → Writes before mid done → Writes mid now next
     → Writes before now (done ++ next)
-next_written before mid now done next stays first then = λ told.
+written_after before mid now done next stays first then = λ told.
     let a : mid.written ≡ before.written ++ done = first told in
     let b : now.written ≡ mid.written ++ next = then (stays.tells ∙ told) in grind (arith, common_steps)
 
+-- After the pieces so far, the next one went out too.
+pub next_written : (before mid now : SinkView) (done next : List ℕ) → StaysSink before mid → WritesAll before mid done → WritesAll mid now next
+    → WritesAll before now (done ++ next)
+next_written before mid now done next stays first then = record {
+  written = written_after before mid now done next stays first.written then.written;
+  calm = then.calm ∙ first.calm;
+}
+
 -- After the pieces so far, the next one went out in part.
-pub next_part : (before mid now : SinkView) (all done next later : List ℕ) → StaysSink before mid → Writes before mid done
+pub next_part : (before mid now : SinkView) (all done next later : List ℕ) → StaysSink before mid → WritesAll before mid done
     → all ≡ done ++ (next ++ later) → WritesPart mid now next → WritesPart before now all
 next_part before mid now all done next later stays first parts then = record {
   counted = omega (arith, stays.faults, then.counted);
@@ -54,7 +62,7 @@ next_part before mid now all done next later stays first parts then = record {
     front = done ++ then.front.front;
     rest = then.front.rest ++ later;
     parts = let a : next ≡ then.front.front ++ then.front.rest = then.front.parts in grind (arith, common_steps);
-    written = next_written before mid now done then.front.front stays first then.front.written;
+    written = written_after before mid now done then.front.front stays first.written then.front.written;
   };
   unfinished = let a : 0 < length then.front.rest = then.unfinished in grind (arith, common_steps);
 }

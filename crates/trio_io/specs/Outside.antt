@@ -83,6 +83,11 @@ pub record StaysSink (before now : SinkView) : Type 0 where
 abbrev pub Writes : SinkView → SinkView → List ℕ → Type 0
 Writes before now bytes = before.tells ≡ true → now.written ≡ before.written ++ bytes
 
+-- All the bytes were written, and no fault was counted.
+pub record WritesAll (before now : SinkView) (bytes : List ℕ) : Type 0 where
+  pub written : Writes before now bytes
+  pub calm : now.faults ≡ before.faults
+
 -- A front of the bytes was written, and the rest was not.
 pub record WritesFront (before now : SinkView) (bytes : List ℕ) : Type 0 where
   pub front : List ℕ
@@ -96,9 +101,9 @@ pub record WritesPart (before now : SinkView) (bytes : List ℕ) : Type 0 where
   pub front : WritesFront before now bytes
   pub unfinished : 0 < length front.rest
 
--- What a writing of these bytes did: all of them went out, or a write failed.
+-- What a writing of these bytes did: all of them went out and no write failed, or a write failed.
 abbrev pub Wrote : SinkView → SinkView → List ℕ → Result (Unit {0}) SinkFault → Type 0
-Wrote before now bytes (Ok done) = Writes before now bytes
+Wrote before now bytes (Ok done) = WritesAll before now bytes
 Wrote before now bytes (Err f) = WritesPart before now bytes
 
 -- What an ask does: it is true only at an armed bell whose count of rings rose; a false one may count as a quiet ask.

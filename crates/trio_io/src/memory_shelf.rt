@@ -62,7 +62,7 @@ impl Shelf for MemShelf {
     fn fetch(&mut self, name: &str, max: u64, into: &mut Vec<u8>) -> Result<(), ShelfFault>
         ensures reads { OnlyReads 1 (mem_seen self.old) (mem_seen self.new) }
         ensures ok { OnOk result (Fetched (mem_seen self.old) name.now max into.old.items into.new.items) }
-        ensures calm { OnOk result (SameFaults (mem_counts self.old) (mem_counts self.new)) }
+        ensures calm { result ≢ Err ShelfFault.Failed → SameFaults (mem_counts self.old) (mem_counts self.new) }
         ensures failed { result ≡ Err ShelfFault.Failed → HasFetchCause (mem_seen self.old) (mem_seen self.new) name.now }
         ensures long { result ≡ Err ShelfFault.TooLong → IsLonger (mem_seen self.old) name.now max }
         ensures err { OnErr result (into.new.items ≡ into.old.items) }
@@ -91,7 +91,7 @@ impl Shelf for MemShelf {
         ensures later { IsLater 1 (mem_counts self.old) (mem_counts self.new) }
         ensures others { (n : List ℕ) → n ≢ name.now → mem_files self.new n ≡ mem_files self.old n }
         ensures ok { OnOk result (Holds (mem_seen self.new) name.now (Some bytes.now)) }
-        ensures calm { OnOk result (SameFaults (mem_counts self.old) (mem_counts self.new)) }
+        ensures calm { result ≢ Err ShelfFault.Failed → SameFaults (mem_counts self.old) (mem_counts self.new) }
         ensures failed { result ≡ Err ShelfFault.Failed → Rose (mem_counts self.old).failed_puts (mem_counts self.new).failed_puts }
         ensures long { result ≢ Err ShelfFault.TooLong }
         ensures kept { OnErr result ((n : List ℕ) → mem_files self.new n ≡ mem_files self.old n) }

@@ -23,7 +23,7 @@ pub trait Shelf {
     fn fetch(&mut self, name: &str, max: u64, into: &mut Vec<u8>) -> Result<(), ShelfFault>
         ensures reads { OnlyReads 1 (seen self.old) (seen self.new) }
         ensures ok { OnOk result (Fetched (seen self.old) name.now max into.old.items into.new.items) }
-        ensures calm { OnOk result (SameFaults (seen self.old).counts (seen self.new).counts) }
+        ensures calm { result ≢ Err ShelfFault.Failed → SameFaults (seen self.old).counts (seen self.new).counts }
         ensures failed { result ≡ Err ShelfFault.Failed → HasFetchCause (seen self.old) (seen self.new) name.now }
         ensures long { result ≡ Err ShelfFault.TooLong → IsLonger (seen self.old) name.now max }
         ensures err { OnErr result (into.new.items ≡ into.old.items) };
@@ -34,7 +34,7 @@ pub trait Shelf {
         ensures still { (seen self.new).tells ≡ (seen self.old).tells }
         ensures others { (n : List ℕ) → n ≢ name.now → (seen self.new).file n ≡ (seen self.old).file n }
         ensures ok { OnOk result (Holds (seen self.new) name.now (Some bytes.now)) }
-        ensures calm { OnOk result (SameFaults (seen self.old).counts (seen self.new).counts) }
+        ensures calm { result ≢ Err ShelfFault.Failed → SameFaults (seen self.old).counts (seen self.new).counts }
         ensures failed { result ≡ Err ShelfFault.Failed → Rose (seen self.old).counts.failed_puts (seen self.new).counts.failed_puts }
         ensures long { result ≢ Err ShelfFault.TooLong };
 }
