@@ -1,6 +1,6 @@
 //! What the words of the contracts mean, in plain words.
-ghost use Rattle.std.specs.Prelude.{◌≡◌, ◌≢◌, ◌↔◌, ℕ, ◌+◌, ◌<◌, ◌≤◌, ◌-◌, ◌^◌, ◌++◌, Bool, List, Option, None, Some, length, true};
-ghost use Rattle.trio_io.specs.Outside.{Rose, ShelfView, Holds, IsLonger, SinkView, Writes, WritesFront, WritesPart, Asked};
+ghost use Rattle.std.specs.Prelude.{◌≡◌, ◌≢◌, ◌↔◌, ℕ, ◌+◌, ◌<◌, ◌≤◌, ◌-◌, ◌^◌, ◌++◌, Bool, List, Option, None, Some, Result, Ok, length, true};
+ghost use Rattle.trio_io.specs.Outside.{Rose, ShelfCounts, SameFaults, ShelfView, Holds, IsLonger, SinkView, Writes, WritesFront, WritesPart, Wrote, Asked};
 
 /// A count that rose is greater than before, but for one that stood at the last value of its 64 bits.
 pub fn count_that_rose_is_greater()
@@ -26,6 +26,18 @@ pub fn written_front_stands_behind()
 pub fn failed_write_is_not_whole()
     ensures counted { (before now : SinkView) (bytes : List ℕ) → WritesPart before now bytes → Rose before.faults now.faults }
     ensures unfinished { (before now : SinkView) (bytes : List ℕ) → before.tells ≡ true → WritesPart before now bytes → now.written ≢ before.written ++ bytes }
+{}
+
+/// A whole write counted no fault, and a sink that tells has what it had, and behind it the bytes.
+pub fn whole_write_counted_no_fault()
+    ensures calm { (before now : SinkView) (bytes : List ℕ) → Wrote before now bytes (Ok tt) → now.faults ≡ before.faults }
+    ensures written { (before now : SinkView) (bytes : List ℕ) → before.tells ≡ true → Wrote before now bytes (Ok tt) → now.written ≡ before.written ++ bytes }
+{}
+
+/// Where no fault was counted, the counts of absences, failed fetches and failed puts stand as before.
+pub fn calm_counts_stand_as_before()
+    ensures { (before now : ShelfCounts) → SameFaults before now ↔
+        ((now.absences ≡ before.absences) × (now.failed_fetches ≡ before.failed_fetches) × (now.failed_puts ≡ before.failed_puts)) }
 {}
 
 /// A bell that is not armed does not ring. The count of rings rises just where it rings, and that of quiet asks by one at most.
