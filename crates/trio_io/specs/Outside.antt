@@ -114,7 +114,15 @@ pub record BellView : Type 0 where
   pub rings : ℕ
   pub quiet : ℕ
 
+-- the same bell, armed
+abbrev pub armed_with : ℕ → BellView → BellView
+armed_with seconds bell = record { armed = Some seconds; rings = bell.rings; quiet = bell.quiet }
+
+-- a bell that counts nothing
+abbrev pub unrung : Option ℕ → BellView
+unrung armed = record { armed = armed; rings = 0; quiet = 0 }
+
 -- What an ask does: it is true only at an armed bell whose count of rings rose; a false one may count as a quiet ask.
-abbrev pub Asked : Bool → Option ℕ → ℕ → ℕ → ℕ → ℕ → Type 0
-Asked true armed rings rung quiet stilled = (armed ≡ None → ⊥) × (rings < rung) × (stilled ≡ quiet)
-Asked false armed rings rung quiet stilled = (rung ≡ rings) × (quiet ≤ stilled) × (stilled ≤ quiet + 1)
+abbrev pub Asked : Bool → BellView → BellView → Type 0
+Asked true before now = (before.armed ≡ None → ⊥) × (before.rings < now.rings) × (now.quiet ≡ before.quiet)
+Asked false before now = (now.rings ≡ before.rings) × (before.quiet ≤ now.quiet) × (now.quiet ≤ before.quiet + 1)

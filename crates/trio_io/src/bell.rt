@@ -1,29 +1,22 @@
 //! A bell that asks a run to stop.
-ghost use Rattle.std.specs.Prelude.{◌≡◌, ℕ, Bool, false, Option};
-ghost use Rattle.trio_io.specs.Outside.{Asked};
+ghost use Rattle.std.specs.Prelude.{◌≡◌, Bool, false, Some, None};
+ghost use Rattle.trio_io.specs.Outside.{BellView, Asked, armed_with, unrung};
 
 /// Asked again and again, it may ring once it is armed.
 pub trait Bell {
-    /// The seconds that the bell was armed with; none at first.
-    ghost armed: { Self → Option ℕ };
-
-    /// How often it rang. It never falls; a bell whose count stands at the last value of its 64 bits rings no more.
-    ghost rings: { Self → ℕ };
-
-    /// How many asks it left unanswered. It never falls, and may stay where it is, as at the last value of its 64 bits.
-    ghost quiet: { Self → ℕ };
+    /// The seconds that the bell was armed with, none at first; how often it rang; and how many asks it left unanswered. Neither count falls. A bell
+    /// whose count of rings stands at the last value of its 64 bits rings no more; that of quiet asks may stay where it is, as at that value.
+    ghost seen: { Self → BellView };
 
     /// Arms the bell, once.
     fn arm(&mut self, seconds: u64)
-        requires { armed self.old ≡ None }
-        ensures armed { armed self.new ≡ Some seconds }
-        ensures rings { rings self.new ≡ rings self.old }
-        ensures quiet { quiet self.new ≡ quiet self.old };
+        requires { (seen self.old).armed ≡ None }
+        ensures { seen self.new ≡ armed_with seconds (seen self.old) };
 
     /// Whether it rings. It takes no memory.
     fn ask(&mut self) -> bool
-        ensures armed { armed self.new ≡ armed self.old }
-        ensures asked { Asked result (armed self.old) (rings self.old) (rings self.new) (quiet self.old) (quiet self.new) };
+        ensures armed { (seen self.new).armed ≡ (seen self.old).armed }
+        ensures asked { Asked result (seen self.old) (seen self.new) };
 }
 
 /// A bell that never rings, and counts nothing.
@@ -42,11 +35,7 @@ impl StillBell {
 }
 
 impl Bell for StillBell {
-    ghost armed = { λ bell. bell.seconds };
-
-    ghost rings = { λ _. 0 };
-
-    ghost quiet = { λ _. 0 };
+    ghost seen = { λ bell. unrung bell.seconds };
 
     fn arm(&mut self, seconds: u64) {
         self.seconds = Some(seconds);

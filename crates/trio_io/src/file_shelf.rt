@@ -1,5 +1,6 @@
 //! The shelf of the real files. It tells nothing of what they hold.
-ghost use Rattle.std.specs.Prelude.{◌≡◌, ◌++◌, ◌<◌, false, List, ℕ, length, IfSome, IsOkAnd, OnOk, OnErr};
+ghost use Rattle.std.specs.Prelude.{◌≡◌, ◌≢◌, ◌++◌, ◌<◌, false, List, ℕ, length, IfErr, IfSome, IsOkAnd, OnOk, OnErr};
+ghost use Rattle.std.specs.IoError.{error_kind};
 ghost use Rattle.trio_io.specs.Outside.{ShelfView, Fetched};
 ghost use Rattle.trio_io.specs.RealShelf.{untold};
 
@@ -43,17 +44,28 @@ impl<'a, R: Files> Shelf for FileShelf<'a, R> {
     }
 
     fn put(&mut self, name: &str, bytes: &[u8]) -> Result<(), ShelfFault> {
-        match fs::write(self.rt, name, bytes) {
-            Ok(()) => Ok(()),
-            Err(_) => {
-                self.failed_puts = self.failed_puts.saturating_add(1);
-                Err(ShelfFault::Failed)
-            }
+        let put = fs::write(self.rt, name, bytes).map_err(|error| shelf_fault(&error));
+        if let Err(ShelfFault::Failed) = put {
+            self.failed_puts = self.failed_puts.saturating_add(1);
         }
+        put
     }
 }
 
-/// Appends all that an opened reader has left, where that is at most `max` bytes. What could not be opened fails.
+/// What an error of the runtime is to a shelf: want of memory, or a failure.
+fn shelf_fault(error: &io::Error) -> ShelfFault
+    ensures memory { error_kind error.now ≡ ErrorKind.OutOfMemory → result ≡ ShelfFault.Memory }
+    ensures failed { error_kind error.now ≢ ErrorKind.OutOfMemory → result ≡ ShelfFault.Failed }
+    ensures short { result ≢ ShelfFault.TooLong }
+{
+    if error.kind() == ErrorKind::OutOfMemory {
+        ShelfFault::Memory
+    } else {
+        ShelfFault::Failed
+    }
+}
+
+/// Appends all that an opened reader has left, where that is at most `max` bytes. What could not be opened fails, or wants memory.
 fn read_up_to<R: Read + Drop>(
     opened: io::Result<R>,
     max: u64,
@@ -62,17 +74,19 @@ fn read_up_to<R: Read + Drop>(
     ensures ok { OnOk result ((shelf : ShelfView) (name : List ℕ) → shelf.tells ≡ false → Fetched shelf name max into.old.items into.new.items) }
     ensures told { OnOk result (IsOkAnd opened (λ reader. IfSome (R.remaining reader) (λ bytes. into.new.items ≡ into.old.items ++ bytes))) }
     ensures long { result ≡ Err ShelfFault.TooLong → IsOkAnd opened (λ reader. IfSome (R.remaining reader) (λ bytes. max < length bytes)) }
+    ensures wants { IfErr opened (λ error. error_kind error ≡ ErrorKind.OutOfMemory → result ≡ Err ShelfFault.Memory) }
+    ensures unopened { IfErr opened (λ error. error_kind error ≢ ErrorKind.OutOfMemory → result ≡ Err ShelfFault.Failed) }
     ensures err { OnErr result (into.new.items ≡ into.old.items) }
 {
-    let Ok(reader) = opened else {
-        return Err(ShelfFault::Failed);
+    let reader = match opened {
+        Ok(reader) => reader,
+        Err(error) => return Err(shelf_fault(&error)),
     };
     let start = into.len();
     let fault = match reader.take(max.saturating_add(1)).read_to_end(into) {
         Ok(count) if count as u64 <= max => return Ok(()),
         Ok(_) => ShelfFault::TooLong,
-        Err(error) if error.kind() == ErrorKind::OutOfMemory => ShelfFault::Memory,
-        Err(_) => ShelfFault::Failed,
+        Err(error) => shelf_fault(&error),
     };
     into.truncate(start);
     Err(fault)

@@ -1,6 +1,6 @@
 //! What the words of the contracts mean, in plain words.
-ghost use Rattle.std.specs.Prelude.{◌≡◌, ◌≢◌, ◌↔◌, ℕ, ◌+◌, ◌<◌, ◌≤◌, ◌-◌, ◌^◌, ◌++◌, Bool, List, Option, None, Some, length, true};
-ghost use Rattle.trio_io.specs.Outside.{Rose, ShelfView, Holds, IsLonger, SinkView, Writes, WritesFront, WritesPart, Asked};
+ghost use Rattle.std.specs.Prelude.{◌≡◌, ◌≢◌, ◌↔◌, ℕ, ◌+◌, ◌<◌, ◌≤◌, ◌-◌, ◌^◌, ◌++◌, Bool, List, Option, None, Some, Result, Ok, length, true};
+ghost use Rattle.trio_io.specs.Outside.{Rose, ShelfCounts, SameFaults, ShelfView, Holds, IsLonger, SinkView, Writes, WritesFront, WritesPart, Wrote, BellView, Asked};
 
 /// A count that rose is greater than before, but for one that stood at the last value of its 64 bits.
 pub fn count_that_rose_is_greater()
@@ -28,13 +28,24 @@ pub fn failed_write_is_not_whole()
     ensures unfinished { (before now : SinkView) (bytes : List ℕ) → before.tells ≡ true → WritesPart before now bytes → now.written ≢ before.written ++ bytes }
 {}
 
+/// A whole write counted no fault, and a sink that tells has what it had, and behind it the bytes.
+pub fn whole_write_counted_no_fault()
+    ensures calm { (before now : SinkView) (bytes : List ℕ) → Wrote before now bytes (Ok tt) → now.faults ≡ before.faults }
+    ensures written { (before now : SinkView) (bytes : List ℕ) → before.tells ≡ true → Wrote before now bytes (Ok tt) → now.written ≡ before.written ++ bytes }
+{}
+
+/// Where no fault was counted, the counts of absences, failed fetches and failed puts stand as before.
+pub fn calm_counts_stand_as_before()
+    ensures { (before now : ShelfCounts) → SameFaults before now ↔
+        ((now.absences ≡ before.absences) × (now.failed_fetches ≡ before.failed_fetches) × (now.failed_puts ≡ before.failed_puts)) }
+{}
+
 /// A bell that is not armed does not ring. The count of rings rises just where it rings, and that of quiet asks by one at most.
 pub fn bells_ring_armed_and_counted()
-    ensures armed { (rings rung quiet stilled : ℕ) → Asked true None rings rung quiet stilled → ⊥ }
-    ensures counted { (answer : Bool) (armed : Option ℕ) (rings rung quiet stilled : ℕ) → Asked answer armed rings rung quiet stilled
-        → (rings ≤ rung) × ((answer ≡ true) ↔ (rings < rung)) }
-    ensures quiet { (answer : Bool) (armed : Option ℕ) (rings rung quiet stilled : ℕ) → Asked answer armed rings rung quiet stilled
-        → (quiet ≤ stilled) × (stilled ≤ quiet + 1) }
+    ensures armed { (before now : BellView) → before.armed ≡ None → Asked true before now → ⊥ }
+    ensures counted { (answer : Bool) (before now : BellView) → Asked answer before now
+        → (before.rings ≤ now.rings) × ((answer ≡ true) ↔ (before.rings < now.rings)) }
+    ensures quiet { (answer : Bool) (before now : BellView) → Asked answer before now → (before.quiet ≤ now.quiet) × (now.quiet ≤ before.quiet + 1) }
 {}
 
 /// Where a shelf tells its files, what is said to stand under a name does, and a file that is said to be longer is.

@@ -161,7 +161,7 @@ fn sinks_take_pieces(rt: &(impl Abort + AllocGlobal)) -> Result<(), AllocError> 
 }
 
 fn never_rings<B: Bell>(rt: &impl Abort, bell: &mut B)
-    requires { B.armed bell.old ≡ None }
+    requires { (B.seen bell.old).armed ≡ None }
 {
     holds(rt, !bell.ask());
     bell.arm(1);
