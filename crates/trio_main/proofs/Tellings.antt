@@ -122,7 +122,7 @@ module _ (one_spec : OneSpecification) (one_fault : OneFault) (none : FaultyIsNo
   -- for told files one answer is due
   due_one : (asked : Option Command) → IsOne (job_of asked)
   due_one None shelf m n s t x y told a b = (a.status_is ∙ sym b.status_is, a.text_is ∙ sym b.text_is)
-  due_one (Some c) = (is_job c).one one_spec one_fault none one_history
+  due_one (Some c) shelf m n s t x y told a b = (is_job c).one one_spec one_fault none one_history shelf m n s t x y told a b
 
   given_due : (asked : Option Command) (call : Call) (old new : SinkView) (n : ℕ) (r s t : Status) (x y : List ℕ) →
       Answers (job_of asked) call s x → r ≡ s → WritesAll old new x → call.before.tells ≡ true → (job_of asked).due call.before n t y →

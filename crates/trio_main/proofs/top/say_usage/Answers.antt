@@ -1,5 +1,5 @@
 -- The usage line is the one that is written.
-use Rattle.std.proofs.Common.{inl, inr, refl}
+use Rattle.std.proofs.Common.{inr, refl}
 use Rattle.trio_main.proofs.top.say_usage.Goals as goal
 
 pub returns-in-Err : goal.returns-in-Err
