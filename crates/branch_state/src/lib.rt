@@ -2,12 +2,9 @@
 #![tactic(auto)]
 
 mod branch;
-mod comparing;
 mod copying;
 mod env;
 mod equal;
-mod equal_formulas;
-mod equal_problems;
 mod holding;
 pub mod laws;
 mod problem;
@@ -17,8 +14,7 @@ mod sets;
 pub use branch::{Branch, Branches, Want, Wants};
 pub use copying::{copy, copy_want, copy_wants};
 pub use env::Env;
-pub use equal::same;
-pub use equal_problems::same_problem;
+pub use equal::{same, same_problem};
 pub use history_table::{Given, Table, Tables};
 pub use holding::holds;
 pub use problem::{Problem, pose};

@@ -8,7 +8,7 @@ ghost use Rattle.branch_state.specs.Branches.{root_sets, root_want, wants_of_roo
 use crate::branch::{Branch, Want, Wants};
 use crate::env::Env;
 use crate::problem::Problem;
-use crate::sets::{add_set, full_set, single_set};
+use crate::sets::{full_set, single_set};
 use history_table::Table;
 use std::alloc::{AllocError, Global};
 use trio_core::{Core, Doms, Root};
@@ -29,7 +29,7 @@ fn root_sets(alloc: Global, problem: &Problem) -> Result<Doms, AllocError>
 {
     let mut sets = Doms::new(alloc);
     for cell in 0..problem.given.len() {
-        add_set(&mut sets, root_set(problem, cell as u32))?;
+        sets.add(root_set(problem, cell as u32))?;
     }
     Ok(sets)
 }
@@ -95,7 +95,7 @@ pub fn of_table(alloc: Global, _problem: &Problem, table: &Table) -> Result<Bran
 {
     let mut doms = Doms::new(alloc);
     for index in table.as_slice() {
-        add_set(&mut doms, single_set(u32::from(*index)))?;
+        doms.add(single_set(u32::from(*index)))?;
     }
     Ok(Branch {
         doms,

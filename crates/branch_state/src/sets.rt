@@ -1,10 +1,7 @@
 //! Sets of value indexes as words.
-ghost use Rattle.std.specs.Prelude.{◌≡◌, [], ◌∷◌, ◌++◌, ◌<◌, ◌≤◌, OnOk};
+ghost use Rattle.std.specs.Prelude.{◌≡◌, ◌<◌, ◌≤◌};
 ghost use Rattle.trio_core.specs.Sets.{set_has};
 ghost use Rattle.branch_state.specs.Branches.{full_set, single_set};
-
-use std::alloc::AllocError;
-use trio_core::Doms;
 
 /// The set of one index alone.
 pub fn single_set(index: u32) -> u64
@@ -29,14 +26,4 @@ pub(crate) fn full_set(size: u32) -> u64
     ensures { result ≡ full_set size }
 {
     if size < 64 { (1 << size) - 1 } else { u64::MAX }
-}
-
-/// Appends a set; only want of memory refuses it.
-pub(crate) fn add_set(sets: &mut Doms, set: u64) -> Result<(), AllocError>
-    ensures { OnOk result (sets.new ≡ sets.old ++ set ∷ []) }
-{
-    match sets.push(set) {
-        Ok(()) => Ok(()),
-        Err((_, refused)) => Err(refused),
-    }
 }

@@ -7,7 +7,7 @@ ghost use Rattle.branch_state.specs.Branches.{Fits, branch};
 ghost use Rattle.decompose.specs.Rule.{Two, ruled, unwanted, cut_cell};
 ghost use Rattle.decompose.specs.Told.{decision_told};
 
-use crate::settlement::{Settled, add, settle, turned};
+use crate::settlement::{Settled, settle};
 use crate::values::{first_undecided, least_member, least_table};
 use crate::why::Why;
 use branch_state::{Branch, Problem, Want, Wants, copy_wants, single_set};
@@ -38,12 +38,12 @@ pub(crate) fn decide(
     if let Three::False = spec_truth3(core, sets) {
         return Ok(Decision::Closed(Why::False));
     }
-    let mut stack = turned(copy_wants(alloc, &branch.wants)?);
+    let mut stack = copy_wants(alloc, &branch.wants)?.reversed();
     match settle(alloc, problem, sets.as_slice(), &mut stack)? {
         Settled::Refuted => Ok(Decision::Closed(Why::Want)),
         Settled::Unwanted => Ok(cut_or_whole(alloc, core, sets)?),
         Settled::Parts(left, first, second) => Ok(parted(alloc, sets, stack, left, first, second)?),
-        Settled::Cuts(Some(cell)) => Ok(cut(alloc, core, sets, turned(stack), cell)?),
+        Settled::Cuts(Some(cell)) => Ok(cut(alloc, core, sets, stack.reversed(), cell)?),
         Settled::Cuts(None) => Ok(Decision::Closed(Why::Want)),
     }
 }
@@ -107,17 +107,17 @@ fn parted(
         ≡ Two (branch sets.now (left ∷ reverse stack)) (branch sets.now (first ∷ second ∷ reverse stack))) }
 {
     let mut left_stack = copy_wants(alloc, &stack)?;
-    add(&mut left_stack, left)?;
+    left_stack.add(left)?;
     let mut right_stack = stack;
-    add(&mut right_stack, second)?;
-    add(&mut right_stack, first)?;
+    right_stack.add(second)?;
+    right_stack.add(first)?;
     let left = Branch {
         doms: sets.copy(alloc)?,
-        wants: turned(left_stack),
+        wants: left_stack.reversed(),
     };
     let right = Branch {
         doms: sets.copy(alloc)?,
-        wants: turned(right_stack),
+        wants: right_stack.reversed(),
     };
     Ok(Decision::Two(left, right))
 }

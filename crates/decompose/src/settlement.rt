@@ -1,5 +1,5 @@
 //! Settling the wants of a branch, one after the other.
-ghost use Rattle.std.specs.Prelude.{◌≡◌, [], IfOk, OnOk, reverse, ◌++◌, ◌∷◌};
+ghost use Rattle.std.specs.Prelude.{◌≡◌, IfOk, reverse};
 ghost use Rattle.trio_core.specs.Sets.{AreSets};
 ghost use Rattle.trio_core.specs.Stands.{world_of_core};
 ghost use Rattle.std.specs.List.{All};
@@ -9,7 +9,7 @@ ghost use Rattle.decompose.specs.Rule.{settled};
 ghost use Rattle.decompose.specs.Told.{settled_told, CutsInside};
 
 use crate::fates::{Fate, fate_of};
-use branch_state::{List, Problem, Want, Wants};
+use branch_state::{Problem, Want, Wants};
 use std::alloc::{AllocError, Global};
 
 /// Where settling ends: what becomes of the first want that is not settled, beside the wants that stand behind it.
@@ -41,36 +41,17 @@ pub(crate) fn settle(
         match fate_of(alloc, problem, sets, &want)? {
             Fate::Refuted => return Ok(Settled::Refuted),
             Fate::Dropped => {}
-            Fate::One(first) => add(stack, first)?,
+            Fate::One(first) => stack.add(first)?,
             Fate::Both(first, second) => {
-                add(stack, second)?;
-                add(stack, first)?;
+                stack.add(second)?;
+                stack.add(first)?;
             }
             Fate::Parts(left, first, second) => return Ok(Settled::Parts(left, first, second)),
             Fate::Cuts(cell) => {
-                add(stack, want)?;
+                stack.add(want)?;
                 return Ok(Settled::Cuts(cell));
             }
         }
     }
     Ok(Settled::Unwanted)
-}
-
-/// Appends a want; only want of memory refuses it.
-pub(crate) fn add(wants: &mut Wants, want: Want) -> Result<(), AllocError>
-    ensures { OnOk result (wants.new ≡ wants.old ++ want ∷ []) }
-{
-    match wants.push(want) {
-        Ok(()) => Ok(()),
-        Err((_, refused)) => Err(refused),
-    }
-}
-
-/// The wants in the opposite order. It takes no memory.
-pub(crate) fn turned(wants: Wants) -> Wants
-    ensures { result ≡ reverse wants }
-{
-    let mut turned = wants.into_vec();
-    turned.as_mut_slice().reverse();
-    List::from_vec(turned)
 }

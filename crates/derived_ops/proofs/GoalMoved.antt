@@ -28,12 +28,12 @@ goal_moved p f goal inside =
 -- the parts that are made of copies: the goal is taken out of theirs, and pushed behind their axioms
 pub moved_parts : (spec : Spec) (goal : ℕ) (moved : Axiom) → goal < length spec.goals →
     {domains : List Domain} → domains ≡ spec.domains → {items : List Item} → items ≡ spec.items →
-    {copied more axioms : List Axiom} → copied ≡ spec.axioms → more ≡ copied ++ moved ∷ [] → axioms ≡ more →
+    {copied axioms : List Axiom} → copied ≡ spec.axioms → axioms ≡ copied ++ moved ∷ [] →
     {copies fewer goals : List Axiom} → copies ≡ spec.goals → moved ≡ get_or copies goal moved → fewer ≡ remove copies goal → goals ≡ fewer →
     record { instants = spec.instants; domains = domains; items = items; axioms = axioms; goals = goals } ≡ with_goal goal (parts_of spec)
-moved_parts spec goal moved inside same_domains same_items same_axioms pushed made_axioms same_goals taken removed made_goals =
+moved_parts spec goal moved inside same_domains same_items same_axioms pushed same_goals taken removed made_goals =
     let is = taken ∙ ap (λ goals. get_or goals goal moved) same_goals in
     let alone = ap option_to_list (slice_get_read spec.goals (length spec.goals) goal moved refl inside is) in
-    let behind = made_axioms ∙ pushed ∙ ap (λ axioms. axioms ++ moved ∷ []) same_axioms in
+    let behind = pushed ∙ ap (λ axioms. axioms ++ moved ∷ []) same_axioms in
     let without = made_goals ∙ removed ∙ ap (λ goals. remove goals goal) same_goals in
     rw (same_domains, same_items, behind, without, alone) refl

@@ -3,10 +3,10 @@ ghost use Rattle.std.specs.Prelude.{◌≡◌, IfOk};
 ghost use Rattle.trio_core.specs.Stands.{StandsFor};
 ghost use Rattle.derived_ops.specs.Rewritten.{IsRewriting};
 
-use crate::copies::{copied_domains, copied_items};
 use crate::writer::Writer;
 use std::alloc::{AllocError, Global};
 use trio_core::{Core, Root};
+use trio_types::copying::{copied_domains, copied_items};
 use trio_types::{List, Spec};
 
 /// The core of the axioms, by the table of rewriting. Only want of memory refuses it, or that there are more nodes than are numbered.

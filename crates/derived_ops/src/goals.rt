@@ -3,8 +3,8 @@ ghost use Rattle.std.specs.Prelude.{◌≡◌, ◌<◌, length, IfOk};
 ghost use Rattle.trio_types.specs.Verdict.{parts_of};
 ghost use Rattle.derived_ops.specs.Goals.{with_goal};
 
-use crate::copies::{copied_axioms, copied_domains, copied_items};
 use std::alloc::{AllocError, Global};
+use trio_types::copying::{copied_axioms, copied_domains, copied_items};
 use trio_types::{List, Spec};
 
 /// The same specification with the goal of this number moved to the end of the axioms. Only want of memory refuses it.
@@ -15,13 +15,13 @@ pub fn with_goal(alloc: Global, spec: &Spec, goal: u32) -> Result<Spec, AllocErr
     let domains = copied_domains(alloc, spec.domains.as_slice())?;
     let items = copied_items(alloc, spec.items.as_slice())?;
     let mut axioms = copied_axioms(alloc, spec.axioms.as_slice())?;
-    let mut goals = copied_axioms(alloc, spec.goals.as_slice())?;
-    axioms.push(goals.remove(goal as usize))?;
+    let mut goals = copied_axioms(alloc, spec.goals.as_slice())?.into_vec();
+    axioms.add(goals.remove(goal as usize))?;
     Ok(Spec {
         instants: spec.instants,
         domains,
         items,
-        axioms: List::from_vec(axioms),
+        axioms,
         goals: List::from_vec(goals),
     })
 }

@@ -1,7 +1,6 @@
 //! Specifications rewritten into cores, and goals moved among their axioms.
 #![tactic(auto)]
 
-mod copies;
 mod cores;
 mod distances;
 mod formulas;

@@ -4,9 +4,8 @@ ghost use Rattle.derived_ops.specs.Rewriting.{variable_at, renamed, minus, towar
 ghost use Rattle.derived_ops.specs.Terms.{part_of};
 
 use crate::joint::Way;
-use sqlite_items::Boxed;
 use std::alloc::{AllocError, Global};
-use trio_types::{List, SignedTerm, SignedTerms, Term, Terms};
+use trio_types::{Boxed, List, SignedTerm, SignedTerms, Term, Terms};
 
 /// A copy with each variable at its level; only want of memory refuses it.
 #[cycle(terms)]
@@ -76,9 +75,8 @@ fn variable(levels: &[u32], number: u32) -> Term
 fn minus(alloc: Global, term: Term) -> Result<Term, AllocError>
     ensures { IfOk result (λ made. made ≡ minus term) }
 {
-    let mut parts = Vec::new(alloc);
-    parts.push(SignedTerm { minus: true, term })?;
-    Ok(Term::Sum(List::from_vec(parts)))
+    let parts = List::of_one(alloc, SignedTerm { minus: true, term })?;
+    Ok(Term::Sum(parts))
 }
 
 /// The distance ahead or back; only want of memory refuses it.

@@ -7,7 +7,8 @@ use Rattle.branch_state.specs.Posed.{Posed}
 use Rattle.emit_ledger.specs.Regions.{RegionView, IsLighter}
 use Rattle.emit_ledger.specs.Assembly.{founds_of, Balances, IsAssembled}
 
--- where each start and each given branch has its region or is among some that are left, and given branches are lighter, every region is used and just those are left
+-- Where every region is of the problem, the branches that a region gives weigh less than its start, and the regions' starts, followed by some branches,
+-- are the starts, followed by all given branches, each as often: every region is used, just those branches are left, and what all regions found is found.
 abbrev pub UsedLaw : Type 0
 UsedLaw =
     (p : Posed) (starts left : List Branch) (regions : List RegionView) (found : List (List ℕ)) (rest : List Branch) (dropped : ℕ) →

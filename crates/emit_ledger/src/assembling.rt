@@ -3,7 +3,7 @@ ghost use Rattle.std.specs.Prelude.{IfOk, All};
 ghost use Rattle.branch_state.specs.Branches.{Fits, reps_all};
 ghost use Rattle.emit_ledger.specs.Assembly.{InOrder, Covers, IsAssembled};
 
-use crate::pool::{pool_of, take_region};
+use crate::pool::{marks_of, pool_of, take_region};
 use crate::region::{RegionParts, Regions};
 use crate::sorting::sort_tables;
 use branch_state::{Branches, List, Problem, Tables};
@@ -53,24 +53,25 @@ fn follow<'p>(
     ensures covers { IfOk result (λ made. Covers problem.now (reps_all problem.now starts) made.found made.rest) }
 {
     let mut unused = regions.len();
+    let marks = marks_of(alloc, problem, &regions)?;
     let mut pool = pool_of(alloc, regions)?;
-    let mut todo = starts.into_vec();
-    let mut all_found = Vec::new(alloc);
-    let mut rest = Vec::new(alloc);
+    let mut todo = starts;
+    let mut all_found = List::new(alloc);
+    let mut rest = List::new(alloc);
     while let Some(branch) = todo.pop() {
-        match take_region(&mut pool, problem, &branch) {
+        match take_region(&mut pool, marks.as_slice(), problem, &branch) {
             Some(region) => {
                 let RegionParts { found, given, .. } = region.into_parts();
-                all_found.append(&mut found.into_vec())?;
-                todo.append(&mut given.into_vec())?;
+                all_found.append(found)?;
+                todo.append(given)?;
                 unused -= 1;
             }
-            None => rest.push(branch)?,
+            None => rest.add(branch)?,
         }
     }
     Ok(Assembled {
-        found: List::from_vec(all_found),
-        rest: List::from_vec(rest),
+        found: all_found,
+        rest,
         dropped: unused as u64,
     })
 }

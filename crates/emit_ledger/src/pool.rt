@@ -1,6 +1,6 @@
 //! Regions that are taken out of their places one after the other.
 ghost use Rattle.std.specs.Prelude.{◌≡◌, ◌↔◌, Some, map, IfOk, IsTrue, All, MatchOption};
-ghost use Rattle.emit_ledger.specs.Pool.{StartsAt, IsTaken};
+ghost use Rattle.emit_ledger.specs.Pool.{StartsAt, Tells, IsMarked, IsTaken};
 
 use crate::region::{Region, Regions};
 use branch_state::{Branch, Problem, same, same_problem};
@@ -20,28 +20,46 @@ pub(crate) fn pool_of<'p>(alloc: Global, regions: Regions<'p>) -> Result<Pool<'p
     Ok(pool)
 }
 
+/// Which regions are of the problem. It compares the problems of each region once; only want of memory refuses it.
+pub(crate) fn marks_of(
+    alloc: Global,
+    problem: &Problem,
+    regions: &Regions<'_>,
+) -> Result<Vec<bool>, AllocError>
+    ensures { IfOk result (λ marks. IsMarked problem.now marks.items (map Some regions.now)) }
+{
+    let mut marks = Vec::new(alloc);
+    for region in regions.as_slice() {
+        marks.push(same_problem(region.problem(), problem))?;
+    }
+    Ok(marks)
+}
+
 /// Takes out the first region of the problem that starts at the branch; `None` exactly where there is none.
 pub(crate) fn take_region<'p>(
     pool: &mut Pool<'p>,
-    problem: &Problem,
+    marks: &[bool],
+    _problem: &Problem,
     branch: &Branch,
 ) -> Option<Region<'p>>
-    ensures { MatchOption result ((pool.new.items ≡ pool.old.items) × All (λ slot. StartsAt problem.now branch.now slot → ⊥) pool.old.items) (IsTaken problem.now branch.now pool.old.items pool.new.items) }
+    requires { IsMarked _problem.now marks.now pool.old.items }
+    ensures { MatchOption result ((pool.new.items ≡ pool.old.items) × All (λ slot. StartsAt _problem.now branch.now slot → ⊥) pool.old.items) (IsTaken _problem.now branch.now pool.old.items pool.new.items) }
 {
     for place in 0..pool.len() {
-        if starts_at(&pool[place], problem, branch) {
+        if starts_at(&pool[place], marks[place], _problem, branch) {
             return pool[place].take();
         }
     }
     None
 }
 
-/// Whether a region of the problem that starts at the branch is there.
-fn starts_at(slot: &Option<Region<'_>>, problem: &Problem, branch: &Branch) -> bool
-    ensures { IsTrue result ↔ StartsAt problem.now branch.now slot.now }
+/// Whether a region of the problem that starts at the branch is there. The mark says whether one that is there is of the problem.
+fn starts_at(slot: &Option<Region<'_>>, ours: bool, _problem: &Problem, branch: &Branch) -> bool
+    requires { Tells _problem.now ours slot.now }
+    ensures { IsTrue result ↔ StartsAt _problem.now branch.now slot.now }
 {
     match slot {
-        Some(region) => { same(region.start(), branch) && same_problem(region.problem(), problem) }
+        Some(region) => ours && same(region.start(), branch),
         None => false,
     }
 }

@@ -54,7 +54,7 @@ impl<'p> Region<'p> {
         ensures { IfOk result (λ made. made ≡ region_view problem.now branch.now [] (branch.now ∷ [])) }
     {
         let start = copy(alloc, branch)?;
-        let given = one(alloc, copy(alloc, branch)?)?;
+        let given = List::of_one(alloc, copy(alloc, branch)?)?;
         Ok(Region {
             problem,
             start,
@@ -72,7 +72,7 @@ impl<'p> Region<'p> {
             start,
             table,
         } = leaf.into_parts();
-        let found = one(alloc, table)?;
+        let found = List::of_one(alloc, table)?;
         Ok(Region {
             problem,
             start,
@@ -197,21 +197,11 @@ impl<'p> Region<'p> {
     }
 }
 
-/// The list of one value.
-fn one<T: Drop>(alloc: Global, value: T) -> Result<List<T>, AllocError>
-    ensures { IfOk result (λ made. made ≡ value ∷ []) }
-{
-    let mut made = Vec::new(alloc);
-    made.push(value)?;
-    Ok(List::from_vec(made))
-}
-
 /// The list of two values.
 fn two<T: Drop>(alloc: Global, first: T, second: T) -> Result<List<T>, AllocError>
     ensures { IfOk result (λ made. made ≡ first ∷ second ∷ []) }
 {
-    let mut made = Vec::new(alloc);
-    made.push(first)?;
-    made.push(second)?;
-    Ok(List::from_vec(made))
+    let mut made = List::of_one(alloc, first)?;
+    made.add(second)?;
+    Ok(made)
 }

@@ -1,12 +1,12 @@
 //! Lists that are exactly their elements.
-ghost use Rattle.std.specs.Prelude.{◌≡◌, [], ◌∷◌, ◌++◌, ◌<◌, ◌-◌, ◌↔◌, length, slice_get, slice_set, IsTrue, IfOk, IfErr, OnOk, OnErr, MatchOption};
+ghost use Rattle.std.specs.Prelude.{◌≡◌, [], ◌∷◌, ◌++◌, ◌<◌, ◌-◌, ◌↔◌, length, slice_get, slice_set, IsTrue, IfOk, IfErr, OnOk, OnErr, MatchOption, reverse};
 ghost use Rattle.std.specs.Option.{option_copied};
 
 use std::alloc::{AllocError, AllocFailed, Global};
 use std::marker::Model;
 
 /// A `Vec` that contracts see as the exact list of its elements: capacities and pointers are no part of it.
-#[derive(Debug, Drop)]
+#[derive(Drop)]
 pub struct List<T> {
     elements: Vec<T>,
 }
@@ -101,9 +101,46 @@ impl<T> List<T> {
             Err(refused) => Err(returned(refused)),
         }
     }
+
+    /// The elements in the opposite order. It takes no memory.
+    pub fn reversed(self) -> List<T>
+        ensures { result ≡ reverse self }
+    {
+        let mut elements = self.into_vec();
+        elements.as_mut_slice().reverse();
+        List { elements }
+    }
 }
 
 impl<T: Drop> List<T> {
+    /// The list of one element; only want of memory refuses it.
+    pub fn of_one(alloc: Global, value: T) -> Result<List<T>, AllocError>
+        ensures { IfOk result (λ made. made ≡ value ∷ []) }
+    {
+        let mut made = List::new(alloc);
+        made.add(value)?;
+        Ok(made)
+    }
+
+    /// Appends an element. Only want of memory refuses it, and then the value is gone and the list is as before.
+    pub fn add(&mut self, value: T) -> Result<(), AllocError>
+        ensures ok { OnOk result (self.new ≡ self.old ++ value ∷ []) }
+        ensures err { OnErr result (self.new ≡ self.old) }
+    {
+        match self.push(value) {
+            Ok(()) => Ok(()),
+            Err((_, refused)) => Err(refused),
+        }
+    }
+
+    /// Appends the elements of another list. Only want of memory refuses it, and then those are gone and the list is as before.
+    pub fn append(&mut self, more: List<T>) -> Result<(), AllocError>
+        ensures ok { OnOk result (self.new ≡ self.old ++ more) }
+        ensures err { OnErr result (self.new ≡ self.old) }
+    {
+        self.elements.append(&mut more.into_vec())
+    }
+
     /// Replaces the element at a place, counted from 0.
     pub fn set(&mut self, place: usize, value: T)
         requires { place < length self.old }

@@ -38,6 +38,14 @@ impl Doms {
         self.words.push(value)
     }
 
+    /// Appends a set. Only want of memory refuses it, and then the list is as before.
+    pub fn add(&mut self, value: u64) -> Result<(), AllocError>
+        ensures ok { OnOk result (self.new ≡ self.old ++ value ∷ []) }
+        ensures err { OnErr result (self.new ≡ self.old) }
+    {
+        self.words.add(value)
+    }
+
     /// A copy; only want of memory refuses it.
     pub fn copy(&self, alloc: Global) -> Result<Doms, AllocError>
         ensures { IfOk result (λ made. made ≡ self.now) }

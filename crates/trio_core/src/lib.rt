@@ -1,6 +1,7 @@
 //! The core language of nodes, its truth in a table, and its three-valued truth under sets of values.
 #![tactic(auto)]
 
+pub mod comparing;
 mod declarations;
 mod doms;
 mod interpretation;

@@ -2,6 +2,8 @@
 #![tactic(auto)]
 
 mod cells;
+pub mod comparing;
+pub mod copying;
 mod declarations;
 mod formula;
 pub mod laws;
@@ -14,5 +16,6 @@ pub use spec::{
     Axiom, Axioms, Declarations, Domain, DomainKind, Domains, Goal, Ids, Item, Items, Names, Spec,
     Which,
 };
+pub use sqlite_items::Boxed;
 pub use trio_base::{Bytes, Ends, FarOp, List, Name, OneOp, PairOp, Rel};
 pub use values::{index_of, value_at};

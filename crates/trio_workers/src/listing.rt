@@ -33,17 +33,8 @@ fn counted_models<L: Ledger>(
     root_represents_the_models();
     root_gives_all_models();
     let _posed = problem.core();
-    let starts = root_alone(alloc, problem)?;
+    let starts = List::of_one(alloc, root(alloc, problem)?)?;
     let mut steps = Steps::<L>::start(blank);
     let outcome = run_one(alloc, problem, List::new(alloc), starts, &mut steps)?;
     Ok(outcome.found)
-}
-
-/// The root of a problem, in a list.
-fn root_alone(alloc: Global, problem: &Problem) -> Result<Branches, AllocError>
-    ensures { IfOk result (λ starts. starts ≡ root_branch problem.now ∷ []) }
-{
-    let mut starts = Vec::new(alloc);
-    starts.push(root(alloc, problem)?)?;
-    Ok(List::from_vec(starts))
 }

@@ -1,5 +1,5 @@
 //! Branches are worked off.
-ghost use Rattle.std.specs.Prelude.{◌≡◌, ◌+◌, ◌≤◌, [], ◌∷◌, ◌++◌, reverse, All, IfOk, OnOk};
+ghost use Rattle.std.specs.Prelude.{◌≡◌, ◌+◌, ◌≤◌, [], ◌∷◌, ◌++◌, All, IfOk, OnOk};
 ghost use Rattle.trio_lists.specs.Multisets.{Permutes};
 ghost use Rattle.branch_state.specs.Branches.{Fits, reps_all};
 ghost use Rattle.branch_state.specs.Weight.{bulk};
@@ -25,7 +25,7 @@ pub(crate) fn search<'p, L: Ledger>(
     ensures steps { steps.new ≤ steps.old + bulk problem.now starts }
 {
     let mut found = kept;
-    let mut given = turned(starts);
+    let mut given = starts.reversed();
     while let Some(branch) = given.pop() {
         advance(alloc, problem, branch, steps, &mut found, &mut given)?;
     }
@@ -50,7 +50,7 @@ fn advance<'p, L: Ledger>(
     let _posed = problem.core();
     match step(alloc, problem, branch, steps) {
         Ok(Stepped::Closed(_)) => Ok(()),
-        Ok(Stepped::Whole(leaf)) => add(found, leaf.into_parts().table),
+        Ok(Stepped::Whole(leaf)) => found.add(leaf.into_parts().table),
         Ok(Stepped::Two(_, left, right)) => add_both(given, right, left),
         Err((_, refused)) => Err(refused),
     }
@@ -60,25 +60,6 @@ fn advance<'p, L: Ledger>(
 fn add_both<T: Drop>(list: &mut List<T>, first: T, second: T) -> Result<(), AllocError>
     ensures { OnOk result (list.new ≡ (list.old ++ first ∷ []) ++ second ∷ []) }
 {
-    add(list, first)?;
-    add(list, second)
-}
-
-/// Appends a value; only want of memory refuses it.
-fn add<T: Drop>(list: &mut List<T>, value: T) -> Result<(), AllocError>
-    ensures { OnOk result (list.new ≡ list.old ++ value ∷ []) }
-{
-    match list.push(value) {
-        Ok(()) => Ok(()),
-        Err((_, refused)) => Err(refused),
-    }
-}
-
-/// The branches in the opposite order. It takes no memory.
-fn turned(branches: Branches) -> Branches
-    ensures { result ≡ reverse branches }
-{
-    let mut turned = branches.into_vec();
-    turned.as_mut_slice().reverse();
-    List::from_vec(turned)
+    list.add(first)?;
+    list.add(second)
 }

@@ -14,7 +14,7 @@ overflow_cast-cell c =
 
 pub loop-cell-preserved : goal.loop-cell-preserved
 loop-cell-preserved c =
-    c.in_ok-add_set.ensures ∙ ap (λ sets. sets ++ c.root_set.result ∷ []) c.loop-cell.invariant
+    c.in_ok-add.ensures.ok ∙ ap (λ sets. sets ++ c.root_set.result ∷ []) c.loop-cell.invariant
     ∙ sym (take_next (root_sets c.args.problem.now) c.loop-cell.cell c.root_set.result c.root_set.ensures)
 
 pub returns : goal.returns

@@ -47,7 +47,7 @@ returns-in-Cuts-clause-rule c =
     let want = c.in-Some.want in
     let rest = c.pop.new.self in
     let old = turned_push rest c.loop-want.stack want c.in-Some.ensures in
-    ap (λ (l : List Want). cut_for_atom (world_of_core p.core) sets l c.in-Cuts.cell) (turned_push rest c.add-in-Cuts.new.wants want c.in_ok-add-in-Cuts.ensures)
+    ap (λ (l : List Want). cut_for_atom (world_of_core p.core) sets l c.in-Cuts.cell) (turned_push rest c.add-in-Cuts.new.self want c.in_ok-add-in-Cuts.ensures.ok)
     ∙ settled_cuts p sets want (reverse rest) c.in-Cuts.cell (subst (All (WantFits p)) old c.loop-want.invariant.fits) (sym (ap fate_told c.in-Cuts.is) ∙ c.in_ok-fate_of.ensures)
     ∙ ap (λ (l : List Want). settled p sets l) (sym old) ∙ c.loop-want.invariant.same
 
@@ -72,10 +72,10 @@ loop-want-smaller-after-branch-2 c =
     let goes : Goes p sets (reverse before) (reverse after) = elim c.match-branch-2.branch [
       | in-Dropped b ↦ stack_goes p sets before rest want after [] c.loop-want.invariant.fits c.in-Some.ensures (ap reverse b.stack-is) (sym (ap fate_told b.in-Dropped.is) ∙ c.in_ok-fate_of.ensures)
       | in-One+in_ok-add-in-One b ↦ stack_goes p sets before rest want after (b.in-One.first ∷ []) c.loop-want.invariant.fits c.in-Some.ensures
-          (ap reverse b.stack-is ∙ turned_push rest b.add.new.wants b.in-One.first b.in_ok-add-in-One.ensures) (sym (ap fate_told b.in-One.is) ∙ c.in_ok-fate_of.ensures)
+          (ap reverse b.stack-is ∙ turned_push rest b.add.new.self b.in-One.first b.in_ok-add-in-One.ensures.ok) (sym (ap fate_told b.in-One.is) ∙ c.in_ok-fate_of.ensures)
       | in-Both+in_ok-add-in-Both+in_ok-add-in-Both-2 b ↦ stack_goes p sets before rest want after (b.in-Both.first ∷ b.in-Both.second ∷ []) c.loop-want.invariant.fits c.in-Some.ensures
-          (ap reverse b.stack-is ∙ turned_push b.add-in-Both.new.wants b.add-in-Both-2.new.wants b.in-Both.first b.in_ok-add-in-Both-2.ensures
-          ∙ ap (λ l. b.in-Both.first ∷ l) (turned_push rest b.add-in-Both.new.wants b.in-Both.second b.in_ok-add-in-Both.ensures)) (sym (ap fate_told b.in-Both.is) ∙ c.in_ok-fate_of.ensures)
+          (ap reverse b.stack-is ∙ turned_push b.add-in-Both.new.self b.add-in-Both-2.new.self b.in-Both.first b.in_ok-add-in-Both-2.ensures.ok
+          ∙ ap (λ l. b.in-Both.first ∷ l) (turned_push rest b.add-in-Both.new.self b.in-Both.second b.in_ok-add-in-Both.ensures.ok)) (sym (ap fate_told b.in-Both.is) ∙ c.in_ok-fate_of.ensures)
     ] in
     goes.lighter
 
@@ -90,10 +90,10 @@ loop-want-preserved-after-branch-2 c =
     let goes : Goes p sets (reverse before) (reverse after) = elim c.match-branch-2.branch [
       | in-Dropped b ↦ stack_goes p sets before rest want after [] c.loop-want.invariant.fits c.in-Some.ensures (ap reverse b.stack-is) (sym (ap fate_told b.in-Dropped.is) ∙ c.in_ok-fate_of.ensures)
       | in-One+in_ok-add-in-One b ↦ stack_goes p sets before rest want after (b.in-One.first ∷ []) c.loop-want.invariant.fits c.in-Some.ensures
-          (ap reverse b.stack-is ∙ turned_push rest b.add.new.wants b.in-One.first b.in_ok-add-in-One.ensures) (sym (ap fate_told b.in-One.is) ∙ c.in_ok-fate_of.ensures)
+          (ap reverse b.stack-is ∙ turned_push rest b.add.new.self b.in-One.first b.in_ok-add-in-One.ensures.ok) (sym (ap fate_told b.in-One.is) ∙ c.in_ok-fate_of.ensures)
       | in-Both+in_ok-add-in-Both+in_ok-add-in-Both-2 b ↦ stack_goes p sets before rest want after (b.in-Both.first ∷ b.in-Both.second ∷ []) c.loop-want.invariant.fits c.in-Some.ensures
-          (ap reverse b.stack-is ∙ turned_push b.add-in-Both.new.wants b.add-in-Both-2.new.wants b.in-Both.first b.in_ok-add-in-Both-2.ensures
-          ∙ ap (λ l. b.in-Both.first ∷ l) (turned_push rest b.add-in-Both.new.wants b.in-Both.second b.in_ok-add-in-Both.ensures)) (sym (ap fate_told b.in-Both.is) ∙ c.in_ok-fate_of.ensures)
+          (ap reverse b.stack-is ∙ turned_push b.add-in-Both.new.self b.add-in-Both-2.new.self b.in-Both.first b.in_ok-add-in-Both-2.ensures.ok
+          ∙ ap (λ l. b.in-Both.first ∷ l) (turned_push rest b.add-in-Both.new.self b.in-Both.second b.in_ok-add-in-Both.ensures.ok)) (sym (ap fate_told b.in-Both.is) ∙ c.in_ok-fate_of.ensures)
     ] in
     record { fits = goes.fits; same = sym goes.same ∙ c.loop-want.invariant.same }
 
@@ -108,10 +108,10 @@ loop-want-smaller c =
     let goes : Goes p sets (reverse before) (reverse after) = elim c.match-branch-2.branch [
       | in-Dropped b ↦ stack_goes p sets before rest want after [] c.loop-want.invariant.fits c.in-Some.ensures (ap reverse b.stack-is) (sym (ap fate_told b.in-Dropped.is) ∙ c.in_ok-fate_of.ensures)
       | in-One+in_ok-add-in-One b ↦ stack_goes p sets before rest want after (b.in-One.first ∷ []) c.loop-want.invariant.fits c.in-Some.ensures
-          (ap reverse b.stack-is ∙ turned_push rest b.add.new.wants b.in-One.first b.in_ok-add-in-One.ensures) (sym (ap fate_told b.in-One.is) ∙ c.in_ok-fate_of.ensures)
+          (ap reverse b.stack-is ∙ turned_push rest b.add.new.self b.in-One.first b.in_ok-add-in-One.ensures.ok) (sym (ap fate_told b.in-One.is) ∙ c.in_ok-fate_of.ensures)
       | in-Both+in_ok-add-in-Both+in_ok-add-in-Both-2 b ↦ stack_goes p sets before rest want after (b.in-Both.first ∷ b.in-Both.second ∷ []) c.loop-want.invariant.fits c.in-Some.ensures
-          (ap reverse b.stack-is ∙ turned_push b.add-in-Both.new.wants b.add-in-Both-2.new.wants b.in-Both.first b.in_ok-add-in-Both-2.ensures
-          ∙ ap (λ l. b.in-Both.first ∷ l) (turned_push rest b.add-in-Both.new.wants b.in-Both.second b.in_ok-add-in-Both.ensures)) (sym (ap fate_told b.in-Both.is) ∙ c.in_ok-fate_of.ensures)
+          (ap reverse b.stack-is ∙ turned_push b.add-in-Both.new.self b.add-in-Both-2.new.self b.in-Both.first b.in_ok-add-in-Both-2.ensures.ok
+          ∙ ap (λ l. b.in-Both.first ∷ l) (turned_push rest b.add-in-Both.new.self b.in-Both.second b.in_ok-add-in-Both.ensures.ok)) (sym (ap fate_told b.in-Both.is) ∙ c.in_ok-fate_of.ensures)
     ] in
     goes.lighter
 
@@ -126,10 +126,10 @@ loop-want-preserved c =
     let goes : Goes p sets (reverse before) (reverse after) = elim c.match-branch-2.branch [
       | in-Dropped b ↦ stack_goes p sets before rest want after [] c.loop-want.invariant.fits c.in-Some.ensures (ap reverse b.stack-is) (sym (ap fate_told b.in-Dropped.is) ∙ c.in_ok-fate_of.ensures)
       | in-One+in_ok-add-in-One b ↦ stack_goes p sets before rest want after (b.in-One.first ∷ []) c.loop-want.invariant.fits c.in-Some.ensures
-          (ap reverse b.stack-is ∙ turned_push rest b.add.new.wants b.in-One.first b.in_ok-add-in-One.ensures) (sym (ap fate_told b.in-One.is) ∙ c.in_ok-fate_of.ensures)
+          (ap reverse b.stack-is ∙ turned_push rest b.add.new.self b.in-One.first b.in_ok-add-in-One.ensures.ok) (sym (ap fate_told b.in-One.is) ∙ c.in_ok-fate_of.ensures)
       | in-Both+in_ok-add-in-Both+in_ok-add-in-Both-2 b ↦ stack_goes p sets before rest want after (b.in-Both.first ∷ b.in-Both.second ∷ []) c.loop-want.invariant.fits c.in-Some.ensures
-          (ap reverse b.stack-is ∙ turned_push b.add-in-Both.new.wants b.add-in-Both-2.new.wants b.in-Both.first b.in_ok-add-in-Both-2.ensures
-          ∙ ap (λ l. b.in-Both.first ∷ l) (turned_push rest b.add-in-Both.new.wants b.in-Both.second b.in_ok-add-in-Both.ensures)) (sym (ap fate_told b.in-Both.is) ∙ c.in_ok-fate_of.ensures)
+          (ap reverse b.stack-is ∙ turned_push b.add-in-Both.new.self b.add-in-Both-2.new.self b.in-Both.first b.in_ok-add-in-Both-2.ensures.ok
+          ∙ ap (λ l. b.in-Both.first ∷ l) (turned_push rest b.add-in-Both.new.self b.in-Both.second b.in_ok-add-in-Both.ensures.ok)) (sym (ap fate_told b.in-Both.is) ∙ c.in_ok-fate_of.ensures)
     ] in
     record { fits = goes.fits; same = sym goes.same ∙ c.loop-want.invariant.same }
 

@@ -8,5 +8,5 @@ use Rattle.emit_ledger.proofs.pool.take_region.Given as goal
 abbrev pub invariant-loop-place : goal.invariant-loop-place
 invariant-loop-place l = record {
   same : l.pool.items ≡ l.fn.pool.items;
-  none : AllWithin (λ slot. StartsAt l.problem l.branch slot → ⊥) l.pool.items 0 l.place;
+  none : AllWithin (λ slot. StartsAt l._problem l.branch slot → ⊥) l.pool.items 0 l.place;
 }

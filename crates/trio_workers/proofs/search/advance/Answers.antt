@@ -27,7 +27,7 @@ returns-in-Ok-Whole-clause-advanced g c =
     let alone : reps p b ≡ leaf.table ∷ [] = subst (KeepsLaw p b) (sym rule) (c.rule_keeps_the_law.ensures.keeps p c.core-posed.ensures.posed b c.requires) in
     let same : leaf.table ≡ table = ap (λ v. v.table) (sym c.into_parts.ensures.is) in
     on_ok_weaker c.add.result
-    (λ made. advanced_alone p b c.args.found.now (table ∷ []) c.add.new.list c.args.given.now (alone ∙ ap (λ t. t ∷ []) same) made) c.add.ensures
+    (λ made. advanced_alone p b c.args.found.now (table ∷ []) c.add.new.self c.args.given.now (alone ∙ ap (λ t. t ∷ []) same) made) c.add.ensures.ok
 
 pub returns-in-Ok-Two-clause-advanced : goal.returns-in-Ok-Two-clause-advanced
 returns-in-Ok-Two-clause-advanced g c =

@@ -12,7 +12,7 @@ use Rattle.trio_workers.proofs.search.search.Goals as goal
 pub loop-branch-init : goal.loop-branch-init
 loop-branch-init g c =
     let p = c.args.problem.now in
-    rw c.turned-given.ensures (record {
+    rw c.reversed-given.ensures (record {
       fit = turned_fit (Fits p) c.args.starts c.requires;
       law = turned_law p c.args.kept c.args.starts;
       spent = omega (arith, turned_bulk p c.args.starts);

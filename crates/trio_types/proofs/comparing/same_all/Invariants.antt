@@ -1,5 +1,5 @@
 use Rattle.std.proofs.Common.{◌≡◌, take}
-use Rattle.branch_state.proofs.comparing.same_all.Given as goal
+use Rattle.trio_types.proofs.comparing.same_all.Given as goal
 
 abbrev pub invariant-loop-place : goal.invariant-loop-place
 invariant-loop-place g l = take l.place l.left ≡ take l.place l.right

@@ -1,14 +1,14 @@
-//! Copies of the parts of specifications; only want of memory refuses them.
+//! Copies of specifications' parts. Each equals what was copied, and only want of memory refuses it.
 ghost use Rattle.std.specs.Prelude.{◌≡◌, IfOk};
 ghost use Rattle.trio_types.specs.declared.formula.Formula.TheVariants as Formula;
 
+use crate::formula::{Formula, Formulas, SignedTerm, SignedTerms, Term, Terms};
+use crate::spec::{Axiom, Axioms, Domain, DomainKind, Domains, Item, Items, Names};
 use sqlite_items::Boxed;
 use std::alloc::{AllocError, Global};
-use trio_types::{
-    Axiom, Domain, DomainKind, Domains, Formula, Formulas, Item, Items, List, Name, Names, Rel,
-    SignedTerm, SignedTerms, Term, Terms,
-};
+use trio_base::{List, Name, Rel};
 
+/// A copy; only want of memory refuses it.
 pub fn copied_domains(alloc: Global, domains: &[Domain]) -> Result<Domains, AllocError>
     ensures { IfOk result (λ made. made ≡ domains.now) }
 {
@@ -19,7 +19,8 @@ pub fn copied_domains(alloc: Global, domains: &[Domain]) -> Result<Domains, Allo
     Ok(List::from_vec(made))
 }
 
-fn copied_domain(alloc: Global, domain: &Domain) -> Result<Domain, AllocError>
+/// A copy; only want of memory refuses it.
+pub fn copied_domain(alloc: Global, domain: &Domain) -> Result<Domain, AllocError>
     ensures { IfOk result (λ made. made ≡ domain.now) }
 {
     let name = domain.name.copy(alloc)?;
@@ -40,7 +41,8 @@ fn copied_kind(alloc: Global, kind: &DomainKind) -> Result<DomainKind, AllocErro
     }
 }
 
-fn copied_names(alloc: Global, names: &[Name]) -> Result<Names, AllocError>
+/// A copy; only want of memory refuses it.
+pub fn copied_names(alloc: Global, names: &[Name]) -> Result<Names, AllocError>
     ensures { IfOk result (λ made. made ≡ names.now) }
 {
     let mut made = Vec::new(alloc);
@@ -50,6 +52,7 @@ fn copied_names(alloc: Global, names: &[Name]) -> Result<Names, AllocError>
     Ok(List::from_vec(made))
 }
 
+/// A copy; only want of memory refuses it.
 pub fn copied_items(alloc: Global, items: &[Item]) -> Result<Items, AllocError>
     ensures { IfOk result (λ made. made ≡ items.now) }
 {
@@ -60,7 +63,8 @@ pub fn copied_items(alloc: Global, items: &[Item]) -> Result<Items, AllocError>
     Ok(List::from_vec(made))
 }
 
-fn copied_item(alloc: Global, item: &Item) -> Result<Item, AllocError>
+/// A copy; only want of memory refuses it.
+pub fn copied_item(alloc: Global, item: &Item) -> Result<Item, AllocError>
     ensures { IfOk result (λ made. made ≡ item.now) }
 {
     let name = item.name.copy(alloc)?;
@@ -73,17 +77,19 @@ fn copied_item(alloc: Global, item: &Item) -> Result<Item, AllocError>
     })
 }
 
-pub fn copied_axioms(alloc: Global, axioms: &[Axiom]) -> Result<Vec<Axiom>, AllocError>
-    ensures { IfOk result (λ made. made.items ≡ axioms.now) }
+/// A copy; only want of memory refuses it.
+pub fn copied_axioms(alloc: Global, axioms: &[Axiom]) -> Result<Axioms, AllocError>
+    ensures { IfOk result (λ made. made ≡ axioms.now) }
 {
     let mut made = Vec::new(alloc);
     for claim in axioms {
         made.push(copied_axiom(alloc, claim)?)?;
     }
-    Ok(made)
+    Ok(List::from_vec(made))
 }
 
-fn copied_axiom(alloc: Global, claim: &Axiom) -> Result<Axiom, AllocError>
+/// A copy; only want of memory refuses it.
+pub fn copied_axiom(alloc: Global, claim: &Axiom) -> Result<Axiom, AllocError>
     ensures { IfOk result (λ made. made ≡ claim.now) }
 {
     let name = claim.name.copy(alloc)?;
@@ -108,8 +114,9 @@ fn copied_comparison(
     Ok(Formula::Compare(rel, left, right))
 }
 
+/// A copy; only want of memory refuses it.
 #[cycle(copied_formulas)]
-fn copied_formula(alloc: Global, formula: &Formula) -> Result<Formula, AllocError>
+pub fn copied_formula(alloc: Global, formula: &Formula) -> Result<Formula, AllocError>
     ensures { IfOk result (λ made. made ≡ formula.now) }
 {
     match formula {
@@ -183,8 +190,9 @@ fn copied_bound(
     Ok((name, body))
 }
 
+/// A copy; only want of memory refuses it.
 #[cycle(copied_formulas)]
-fn copied_formulas(alloc: Global, formulas: &[Formula]) -> Result<Formulas, AllocError>
+pub fn copied_formulas(alloc: Global, formulas: &[Formula]) -> Result<Formulas, AllocError>
     ensures { IfOk result (λ made. made ≡ formulas.now) }
 {
     let mut made = Vec::new(alloc);
@@ -194,8 +202,9 @@ fn copied_formulas(alloc: Global, formulas: &[Formula]) -> Result<Formulas, Allo
     Ok(List::from_vec(made))
 }
 
+/// A copy; only want of memory refuses it.
 #[cycle(copied_terms)]
-fn copied_term(alloc: Global, term: &Term) -> Result<Term, AllocError>
+pub fn copied_term(alloc: Global, term: &Term) -> Result<Term, AllocError>
     ensures { IfOk result (λ made. made ≡ term.now) }
 {
     match term {
@@ -214,8 +223,9 @@ fn copied_term(alloc: Global, term: &Term) -> Result<Term, AllocError>
     }
 }
 
+/// A copy; only want of memory refuses it.
 #[cycle(copied_terms)]
-fn copied_terms(alloc: Global, terms: &[Term]) -> Result<Terms, AllocError>
+pub fn copied_terms(alloc: Global, terms: &[Term]) -> Result<Terms, AllocError>
     ensures { IfOk result (λ made. made ≡ terms.now) }
 {
     let mut made = Vec::new(alloc);

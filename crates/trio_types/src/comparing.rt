@@ -1,12 +1,96 @@
-//! Whether terms and formulas are equal.
+//! Whether values of specifications are equal. It takes no memory, and goes over the whole of both.
 ghost use Rattle.std.specs.Prelude.{◌≡◌, ◌↔◌, IsTrue};
 
-use crate::comparing::Same;
-use trio_types::{Formula, SignedTerm, Term};
+use crate::formula::{Formula, SignedTerm, Term};
+use crate::spec::{Axiom, Domain, DomainKind, Item, Spec};
+use trio_base::Name;
+
+/// What contracts see of two values can be compared.
+pub trait Same {
+    /// Whether they are equal.
+    fn same(&self, other: &Self) -> bool
+        ensures { IsTrue result ↔ (self.now ≡ other.now) };
+}
+
+/// Whether two lists are equal.
+pub fn same_all<T: Same>(left: &[T], right: &[T]) -> bool
+    ensures { IsTrue result ↔ (left.now ≡ right.now) }
+{
+    if left.len() != right.len() {
+        return false;
+    }
+    for place in 0..left.len() {
+        if !left[place].same(&right[place]) {
+            return false;
+        }
+    }
+    true
+}
+
+/// Whether two specifications are equal.
+pub fn same_spec(left: &Spec, right: &Spec) -> bool
+    ensures { IsTrue result ↔ (left.now ≡ right.now) }
+{
+    left.instants == right.instants
+        && same_all(left.domains.as_slice(), right.domains.as_slice())
+        && same_all(left.items.as_slice(), right.items.as_slice())
+        && same_all(left.axioms.as_slice(), right.axioms.as_slice())
+        && same_all(left.goals.as_slice(), right.goals.as_slice())
+}
+
+impl Same for Name {
+    fn same(&self, other: &Name) -> bool {
+        self.as_str() == other.as_str()
+    }
+}
+
+impl Same for Option<u16> {
+    fn same(&self, other: &Option<u16>) -> bool {
+        *self == *other
+    }
+}
+
+impl Same for Domain {
+    fn same(&self, other: &Domain) -> bool {
+        self.name.same(&other.name) && same_kind(&self.kind, &other.kind)
+    }
+}
+
+fn same_kind(left: &DomainKind, right: &DomainKind) -> bool
+    ensures { IsTrue result ↔ (left.now ≡ right.now) }
+{
+    match (left, right) {
+        (DomainKind::Bool, DomainKind::Bool) => true,
+        (DomainKind::Range(low, high), DomainKind::Range(other_low, other_high)) => {
+            *low == *other_low && *high == *other_high
+        }
+        (DomainKind::Words(words), DomainKind::Words(others)) => {
+            same_all(words.as_slice(), others.as_slice())
+        }
+        _ => false,
+    }
+}
+
+impl Same for Item {
+    fn same(&self, other: &Item) -> bool {
+        self.name.same(&other.name)
+            && self.input == other.input
+            && self.args.as_slice() == other.args.as_slice()
+            && self.value == other.value
+    }
+}
+
+impl Same for Axiom {
+    fn same(&self, other: &Axiom) -> bool {
+        self.name.same(&other.name)
+            && self.at == other.at
+            && same_formula(&self.formula, &other.formula)
+    }
+}
 
 /// Whether two terms are equal.
 #[cycle(terms)]
-pub(crate) fn same_term(left: &Term, right: &Term) -> bool
+pub fn same_term(left: &Term, right: &Term) -> bool
     ensures { IsTrue result ↔ (left.now ≡ right.now) }
 {
     match (left, right) {
@@ -68,7 +152,7 @@ fn same_part(left: &SignedTerm, right: &SignedTerm) -> bool
 
 /// Whether two formulas are equal.
 #[cycle(formulas)]
-pub(crate) fn same_formula(left: &Formula, right: &Formula) -> bool
+pub fn same_formula(left: &Formula, right: &Formula) -> bool
     ensures { IsTrue result ↔ (left.now ≡ right.now) }
 {
     match (left, right) {

@@ -1,6 +1,6 @@
 -- What the loops over terms and over parts of sums keep.
 use Rattle.std.proofs.Common.{◌≡◌, take}
-use Rattle.branch_state.proofs.equal_formulas.+terms.Given as goal
+use Rattle.trio_types.proofs.comparing.+terms.Given as goal
 
 abbrev pub invariant-same_parts-loop-place : goal.invariant-same_parts-loop-place
 invariant-same_parts-loop-place l = take l.place l.left ≡ take l.place l.right
