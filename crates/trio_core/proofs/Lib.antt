@@ -12,4 +12,5 @@ pub mod Sure
 mod Nodes3
 pub mod KnownAt
 pub mod TermsFit
+pub mod TermValues
 pub mod Evaluating
