@@ -173,6 +173,6 @@ read_length w n args e fits item at =
     let r = read_item w n args e fits in
     ap (λ (item : Item). length item.args) (same_Some item r.0 (sym at ∙ r.1)) ∙ r.2
 
--- the value of an argument is no greater than the limit
-pub small_value : (w : World) (x : Term) (e : List ℤ) (fits : TermFits w x e) (o : Option ℤ) (z : ℤ) → IsBounded w x e o → o ≡ Some z → nat_abs z ≤ 1000000000000
-small_value w x e fits o z bounded_ is = let small = bounded_ fits.variables fits.are_values z is in omega (arith, small.most, fits.bounded)
+-- a value is no greater than the limit
+pub small_value : {w : World} {x : Term} {e : List ℤ} {o : Option ℤ} {z : ℤ} → TermFits w x e → IsBounded w x e o → o ≡ Some z → nat_abs z ≤ 1000000000000
+small_value {z = z} fits bounded_ is = let small = bounded_ fits.variables fits.are_values z is in omega (arith, small.most, fits.bounded)

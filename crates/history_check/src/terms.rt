@@ -1,5 +1,6 @@
 //! The values of terms.
-ghost use Rattle.std.specs.Prelude.{◌≡◌, ◌<◌, ℤ, length};
+ghost use Rattle.std.specs.Prelude.{◌≡◌, ◌<◌, ◌≤◌, neg_ℤ, nat_abs, if◌then◌else◌};
+ghost use Rattle.trio_base.specs.declared.limits.TheConstants.{GREATEST_BOUND};
 ghost use Rattle.trio_types.specs.declared.formula.Term.TheVariants as term_of;
 ghost use Rattle.trio_types.specs.Cells.{IsTable};
 ghost use Rattle.trio_types.specs.Values.{value};
@@ -74,7 +75,15 @@ fn sum(under: Interpretation<'_>, parts: &[SignedTerm], instant: u32) -> Option<
         let Some(value) = value_of(under, &part.term, instant) else {
             return None;
         };
-        sum += if part.minus { -value } else { value };
+        sum += signed(part.minus, value);
     }
     Some(sum)
+}
+
+/// A value, or its opposite.
+fn signed(minus: bool, value: i64) -> i64
+    requires { nat_abs value ≤ GREATEST_BOUND }
+    ensures { result ≡ (if minus then neg_ℤ value else value) }
+{
+    if minus { -value } else { value }
 }

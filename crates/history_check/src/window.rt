@@ -6,7 +6,7 @@ ghost use Rattle.history_check.specs.Fits.{Selects, IsNear, IsBetween};
 use trio_types::Ends;
 
 /// The instants from `from` on and before `to`.
-#[derive(Clone, Copy, Debug, PartialEq, Eq)]
+#[derive(Clone, Copy)]
 pub(crate) struct Window {
     pub from: u32,
     pub to: u32,

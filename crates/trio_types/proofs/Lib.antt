@@ -1,5 +1,6 @@
 -- The lemmas of the crate.
 mod Formed
+pub mod Arguments
 pub mod Atoms
 pub mod Bounded
 pub mod BoundsAt

@@ -129,7 +129,7 @@ holds-far_holds-requires t c =
           subst P (sym c.get-in-Far.ensures) parts.0,
           (
             c.requires.instant_in,
-            λ d is. small_value w c.in-Far.distance e parts.1 c.value_of-distance.result d c.value_of-distance.ensures.bounded is,
+            λ d is. small_value parts.1 c.value_of-distance.ensures.bounded is,
           ),
         ),
       ),

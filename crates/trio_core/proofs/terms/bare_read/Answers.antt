@@ -1,67 +1,48 @@
 -- The answers to the goals of `bare_read`.
-use Rattle.std.proofs.Common.{◌≡◌, ℕ, [], Some, length, slice_get, true, refl, sym, ap, ◌∙◌, arith}
+use Rattle.std.proofs.Common.{◌≡◌, ℕ, [], Some, length, slice_get, true, sym, ap, ◌∙◌, arith}
 use Rattle.std.proofs.lemmas.List.{nil_from_length}
-use Rattle.std.proofs.lemmas.Option.{slice_get_within}
 use Rattle.trio_types.specs.declared.formula.Term.TheVariants as term
-use Rattle.trio_types.specs.declared.spec.Item.{Item}
-use Rattle.trio_types.specs.World.{World}
+use Rattle.trio_types.specs.declared.spec.Declarations.{Declarations}
 use Rattle.trio_types.specs.Cells.{the_cell, cells_of, are_indexes, item_takes, takes}
-use Rattle.trio_types.specs.Values.{indexes, read_cell}
+use Rattle.trio_types.specs.Values.{indexes}
 use Rattle.trio_types.specs.Declarations.{declared_world}
+use Rattle.trio_core.specs.declared.interpretation.Interpretation.{Interpretation}
 use Rattle.trio_core.specs.Stands.{world_of_core}
-use Rattle.trio_core.proofs.TermsFit.{world_is, term_near, read_item, cell_by_indexes, read3_by_cell}
+use Rattle.trio_core.proofs.TermsFit.{world_is, read_item, cell_by_indexes}
+use Rattle.trio_core.proofs.TermValues.{FitsUnder, ReadBy, read_by, read_declared}
 use Rattle.trio_core.proofs.terms.bare_read.Goals as goal
 
--- the cell that an item without arguments is read from
-bare_cell : (w : World) (n : ℕ) (item : Item) (i : ℕ) → slice_get w.items n ≡ Some item → length item.args ≡ 0 → read_cell w n [] i ≡ Some (the_cell n [] i)
-bare_cell w n item i at none = cell_by_indexes w n item [] i (Some []) at (ap (λ ds. indexes w.domains ds []) (nil_from_length item.args none))
+-- an item without arguments takes none, and is read from the cell at none
+record BareRead (under : Interpretation) (i n : ℕ) (declared : Declarations) : Type 0 where
+  takes_none : takes (declared_world declared) n [] ≡ true
+  by_cell : (m : ℕ) → slice_get (cells_of (declared_world declared)) m ≡ Some (the_cell n [] i) → ReadBy under i n [] m
 
-bare_takes : (w : World) (n : ℕ) (item : Item) → slice_get w.items n ≡ Some item → length item.args ≡ 0 → takes w n [] ≡ true
-bare_takes w n item at none = ap (λ o. item_takes w o []) at ∙ ap (λ ds. are_indexes w.domains ds []) (nil_from_length item.args none)
+bare : (under : Interpretation) (i n : ℕ) (declared : Declarations) → FitsUnder under (term.Read n []) → declared.instants ≡ under.core.now.instants → declared.domains.now ≡ under.core.now.domains → declared.items.now ≡ under.core.now.items →
+    BareRead under i n declared
+bare under i n declared fits instants domains items =
+    let w = world_of_core under.core.now in
+    let r = read_item w n [] under.values.now fits in
+    let none = nil_from_length r.0.args r.2 in
+    let same = world_is (declared_world declared) w instants domains items in
+    record {
+      takes_none = ap (λ w. takes w n []) same ∙ ap (λ o. item_takes w o []) r.1 ∙ ap (λ ds. are_indexes w.domains ds []) none;
+      by_cell = λ m place.
+          read_by under i n [] m (the_cell n [] i) fits (cell_by_indexes w n r.0 [] i (Some []) r.1 (ap (λ ds. indexes w.domains ds []) none)) (ap (λ w. slice_get (cells_of w) m) (sym same) ∙ place);
+    }
 
 pub cell_of-cell-requires-clause-item_in : goal.cell_of-cell-requires-clause-item_in
-cell_of-cell-requires-clause-item_in c =
-    let core = c.args.under.now.core.now in
-    let r = read_item (world_of_core core) c.args.item [] c.args.under.now.values.now c.requires.term_fits in
-    omega (arith, slice_get_within core.items c.args.item r.0 r.1, ap length c.declarations.ensures.items)
+cell_of-cell-requires-clause-item_in c = omega (arith, read_declared c.args.item [] c.requires.term_fits, ap length c.declarations.ensures.items)
 
 pub cell_of-cell-requires-clause-args_in : goal.cell_of-cell-requires-clause-args_in
 cell_of-cell-requires-clause-args_in c =
-    let w = world_of_core c.args.under.now.core.now in
-    let n = c.args.item in
-    let r = read_item w n [] c.args.under.now.values.now c.requires.term_fits in
-    let same = world_is (declared_world c.declarations.result) w c.declarations.ensures.instants c.declarations.ensures.domains c.declarations.ensures.items in
-    ap (λ w. takes w n []) same ∙ bare_takes w n r.0 r.1 r.2
+    (bare c.args.under.now c.args.instant c.args.item c.declarations.result c.requires.term_fits c.declarations.ensures.instants c.declarations.ensures.domains c.declarations.ensures.items).takes_none
 
 pub cell_value-requires-clause-cell_is : goal.cell_value-requires-clause-cell_is
 cell_value-requires-clause-cell_is c =
-    let core = c.args.under.now.core.now in
-    let w = world_of_core core in
-    let sets = c.args.under.now.doms.now in
-    let e = c.args.under.now.values.now in
-    let n = c.args.item in
-    let i = c.args.instant in
-    let fits = c.requires.term_fits in
-    let r = read_item w n [] e fits in
-    let same = world_is (declared_world c.declarations.result) w c.declarations.ensures.instants c.declarations.ensures.domains c.declarations.ensures.items in
-    let known = read3_by_cell w sets n [] e i fits (Some (the_cell n [] i)) (bare_cell w n r.0 i r.1 r.2) in
-    record {
-      declared = slice_get_within core.items n r.0 r.1;
-      cell = the_cell n [] i;
-      place = ap (λ w. slice_get (cells_of w) c.cell_of-cell.result) (sym same) ∙ c.cell_of-cell.ensures;
-      of_item = refl;
-      near = λ z is. term_near w sets (term.Read n []) e i fits z (known ∙ is);
-    }
+    let of = bare c.args.under.now c.args.instant c.args.item c.declarations.result c.requires.term_fits c.declarations.ensures.instants c.declarations.ensures.domains c.declarations.ensures.items in
+    (of.by_cell c.cell_of-cell.result c.cell_of-cell.ensures).cell_is
 
 pub returns : goal.returns
 returns c =
-    let w = world_of_core c.args.under.now.core.now in
-    let sets = c.args.under.now.doms.now in
-    let e = c.args.under.now.values.now in
-    let n = c.args.item in
-    let i = c.args.instant in
-    let fits = c.requires.term_fits in
-    let r = read_item w n [] e fits in
-    let same = world_is (declared_world c.declarations.result) w c.declarations.ensures.instants c.declarations.ensures.domains c.declarations.ensures.items in
-    let known = read3_by_cell w sets n [] e i fits (Some (the_cell n [] i)) (bare_cell w n r.0 i r.1 r.2) in
-    c.cell_value.ensures (the_cell n [] i) (ap (λ w. slice_get (cells_of w) c.cell_of-cell.result) (sym same) ∙ c.cell_of-cell.ensures) ∙ sym known
+    let of = bare c.args.under.now c.args.instant c.args.item c.declarations.result c.requires.term_fits c.declarations.ensures.instants c.declarations.ensures.domains c.declarations.ensures.items in
+    (of.by_cell c.cell_of-cell.result c.cell_of-cell.ensures).answer c.cell_value.result c.cell_value.ensures
