@@ -31,11 +31,11 @@ use Rattle.history_table.specs.Texts.{given_text}
 use Rattle.history_table.proofs.Tables.{known_within}
 use Rattle.history_table.proofs.LineRuns.{eq_true, eq_from}
 use Rattle.history_table.proofs.LineSteps.{history_is}
-use Rattle.history_table.specs.PrintedLaws.{PrintedHistoryLaw, PrintedTableLaw}
+use Rattle.trio_canonical.specs.PrintedLaws.{PrintedHistoryLaw, PrintedTableLaw}
 use Rattle.history_table.proofs.Fits.{row_length, zip-append, same_Ok}
-use Rattle.history_table.proofs.LinePieces.{line_pieces, numbered_lines, read_one_by_one, AreWritable, lines_spaced}
-use Rattle.history_table.proofs.Written.{written_line, written_lines, lines_said}
-use Rattle.history_table.proofs.PrintedRows.{RowLine, row_line}
+use Rattle.trio_canonical.proofs.LinePieces.{line_pieces, numbered_lines, read_one_by_one, AreWritable, lines_spaced}
+use Rattle.trio_canonical.proofs.Written.{written_line, written_lines, lines_said}
+use Rattle.trio_canonical.proofs.PrintedRows.{RowLine, row_line}
 
 -- ---- rows are apart
 
