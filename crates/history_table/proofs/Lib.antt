@@ -3,7 +3,8 @@ mod Spellings
 pub mod LineRuns
 pub mod LineSteps
 mod Arguments
-pub mod RowNumbers
+mod RowNumbers
+pub mod RowPlaces
 pub mod Fits
 pub mod Answered
 pub mod Faults
