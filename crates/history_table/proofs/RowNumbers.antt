@@ -1,14 +1,11 @@
 -- The rows of a specification, by the cells at instant 0, and the indexes of written values.
-use Rattle.std.proofs.Common.{◌≡◌, ℕ, ◌+◌, ◌*◌, ◌<◌, ◌≤◌, ℤ, pos, neg_ℤ, true, false, List, [], ◌∷◌, ◌++◌, length, take, get_or, map, Option, None, Some, slice_get, refl, sym, ap, ◌∙◌, arith, position, append-nil, not, Bool, cond, nat_lt, Ok, Err}
-use Rattle.std.specs.List.{flat_map, position_or_len}
+use Rattle.std.proofs.Common.{◌≡◌, ℕ, ◌+◌, ◌*◌, ◌<◌, ℤ, pos, neg_ℤ, true, false, List, [], length, Option, None, Some, slice_get, refl, sym, ap, ◌∙◌, arith}
 use Rattle.std.specs.Str.{bytes_eq}
 use Rattle.std.specs.Ordering.{int_eq}
 use Rattle.std.proofs.Math.Logic.{⊎_elim}
 use Rattle.std.proofs.Math.Path.{ap₂}
-use Rattle.std.proofs.lemmas.List.{take_more, map-append, length-map}
-use Rattle.std.proofs.lemmas.Grind.{flat_map-append}
 use Rattle.std.proofs.lemmas.List.Quantifiers.{position-Some}
-use Rattle.std.proofs.lemmas.Option.{slice_get_cases, slice_get_within, same_Some, get_or_from_slice_get}
+use Rattle.std.proofs.lemmas.Option.{slice_get_cases, slice_get_within, same_Some}
 use Rattle.trio_types.specs.declared.spec.DomainKind.{DomainKind}
 use Rattle.trio_types.specs.declared.spec.DomainKind.TheVariants as kind
 use Rattle.trio_types.specs.declared.spec.Domain.{Domain}
@@ -19,15 +16,11 @@ use Rattle.trio_types.specs.Values.{index_of}
 use Rattle.trio_types.specs.Cells.{Row, Cell, the_cell, rows_of, cells_of}
 use Rattle.trio_types.specs.Verdict.{parts_of, world_of}
 use Rattle.trio_types.proofs.Specs.{formed, some_instant, within_limit}
-use Rattle.trio_types.proofs.CellNumbers.{cell_at, few_rows as rows_few, small_size}
+use Rattle.trio_types.proofs.CellNumbers.{cell_at, small_size}
 use Rattle.trio_types.proofs.Domains.{length-integers}
 use Rattle.history_table.specs.declared.line.Value.{Value}
 use Rattle.history_table.specs.declared.line.Value.TheVariants as written
-use Rattle.history_table.specs.declared.rows.RowParts.{RowParts}
-use Rattle.history_table.specs.declared.lines.Found.{Found}
 use Rattle.history_table.specs.Rows.{index_in, index_in_domain, value_index}
-use Rattle.history_table.specs.Decoding.{row_from, cells_at, has_row, joined_rows, joined_lines}
-use Rattle.history_table.specs.declared.fault.HistFault.TheVariants as fault
 
 pub there : {A : Type 0} (xs : List A) (k : ℕ) → k < length xs → (x : A) × (slice_get xs k ≡ Some x)
 there xs k inside = ⊎_elim (λ is. (is.0, is.2)) (λ past. absurd (omega (arith, inside, past.0))) (slice_get_cases xs k).1
@@ -56,24 +49,6 @@ pub row_is : (spec : Spec) (k item : ℕ) (args : List ℕ) (instant : ℕ) → 
 row_is spec k item args instant f is =
     let same : the_cell f.row.item f.row.args 0 ≡ the_cell item args instant = same_Some _ _ (sym f.cell ∙ is) in
     f.stands ∙ ap₂ (λ i vs. Some (record { item = i; args = vs })) (ap (λ (c : Cell). c.item) same) (ap (λ (c : Cell). c.args) same)
-
--- one row more
-pub row_more : (spec : Spec) (rows : List RowParts) (k : ℕ) (parts : RowParts) → map row_from rows ≡ take k (rows_of (world_of spec)) →
-    slice_get (rows_of (world_of spec)) k ≡ Some (row_from parts) → map row_from (rows ++ parts ∷ []) ≡ take (k + 1) (rows_of (world_of spec))
-row_more spec rows k parts so_far at =
-    let all = rows_of (world_of spec) in
-    let row = row_from parts in
-    map-append row_from rows (parts ∷ []) ∙ ap₂ (λ xs x. xs ++ x ∷ []) so_far (sym (get_or_from_slice_get all k row row at))
-    ∙ sym (take_more all k row (slice_get_within all k row at))
-
--- what is gathered, one row more
-pub gather_more : (found : List Found) (rows : List RowParts) (i : ℕ) (row : RowParts) (given now : List (Option ℕ)) → i < length rows → row ≡ get_or rows i row →
-    given ≡ flat_map (λ r. cells_at found (row_from r)) (take i rows) → now ≡ given ++ cells_at found (row_from row) →
-    now ≡ flat_map (λ r. cells_at found (row_from r)) (take (i + 1) rows)
-gather_more found rows i row given now less is before more =
-    more ∙ ap₂ ◌++◌ before (ap (λ r. cells_at found (row_from r)) is ∙ sym (append-nil _))
-    ∙ sym (flat_map-append (λ r. cells_at found (row_from r)) (take i rows) (get_or rows i row ∷ []))
-    ∙ ap (flat_map (λ r. cells_at found (row_from r))) (sym (take_more rows i row less))
 
 -- an index is below the number of values
 number_within : (values : List ℤ) (z : ℤ) (k : ℕ) → index_of values z ≡ Some k → k < length values
@@ -108,36 +83,3 @@ value_index_small spec d v k inside is =
     let within = value_index_within (world_of spec) d v k is in
     let few = small_size (parts_of spec) (formed spec) d inside in
     omega (arith, within, few)
-
--- what is looked for in a list of rows, and in the list of what they are
-pub position-map : {A B : Type 0} (f : A → B) (p : B → Bool) (xs : List A) → position p (map f xs) ≡ position (λ x. p (f x)) xs
-position-map {A} {B} f p xs = ap₂ (λ k l. cond (nat_lt k l) (Some k) None) (go xs) (length-map xs f)
-  where
-    go : (ys : List A) → position_or_len p (map f ys) ≡ position_or_len (λ x. p (f x)) ys
-    go [] = refl
-    go (y ∷ ys) = ap (λ k. cond (not (p (f y))) (1 + k) 0) (go ys)
-
-flat_map-map : {A B C : Type 0} (f : A → B) (g : B → List C) (xs : List A) → flat_map g (map f xs) ≡ flat_map (λ x. g (f x)) xs
-flat_map-map f g [] = refl
-flat_map-map f g (x ∷ xs) = ap (λ ys. g (f x) ++ ys) (flat_map-map f g xs)
-
-joined_at : (w : World) (found : List Found) (rows : List RowParts) → map row_from rows ≡ rows_of w →
-    joined_lines w found ≡ joined_rows found (map row_from rows) (position (λ r. not (has_row found (row_from r))) rows)
-joined_at w found rows is =
-    ap (λ rs. joined_rows found rs (position (λ r. not (has_row found r)) rs)) (sym is)
-    ∙ ap (joined_rows found (map row_from rows)) (position-map row_from (λ r. not (has_row found r)) rows)
-
-pub joined_missing : (w : World) (found : List Found) (rows : List RowParts) (row : ℕ) → map row_from rows ≡ rows_of w →
-    Some row ≡ position (λ r. not (has_row found (row_from r))) rows → joined_lines w found ≡ Err (fault.MissingRow row)
-joined_missing w found rows row is at = joined_at w found rows is ∙ ap (joined_rows found (map row_from rows)) (sym at)
-
-pub joined_whole : (w : World) (found : List Found) (rows : List RowParts) (given : List (Option ℕ)) → map row_from rows ≡ rows_of w →
-    None ≡ position (λ r. not (has_row found (row_from r))) rows → given ≡ flat_map (λ r. cells_at found (row_from r)) rows → joined_lines w found ≡ Ok given
-joined_whole w found rows given is none gathered =
-    joined_at w found rows is ∙ ap (joined_rows found (map row_from rows)) (sym none) ∙ ap Ok (flat_map-map row_from (cells_at found) rows ∙ sym gathered)
-
-pub few_rows : (spec : Spec) (rows : List RowParts) → map row_from rows ≡ rows_of (world_of spec) → length rows ≤ 1024
-few_rows spec rows is =
-    let whole = length-map rows row_from in
-    let same = ap length is in
-    omega (arith, whole, same, rows_few (parts_of spec) (formed spec))

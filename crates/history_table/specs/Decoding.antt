@@ -131,6 +131,14 @@ cells_found (Some f) = f.cells
 abbrev pub cells_at : List Found → Row → List (Option ℕ)
 cells_at found row = cells_found (find (λ f. same_row (row_from f.row) row) found)
 
+-- the place of the line that is this row, where there is one
+abbrev pub line_place : List Found → Row → Option ℕ
+line_place found row = position (λ f. same_row (row_from f.row) row) found
+
+-- at each row's number the place of its line
+abbrev pub line_places : World → List Found → List (Option ℕ)
+line_places world found = map (line_place found) (rows_of world)
+
 abbrev pub joined_rows : List Found → List Row → Option ℕ → Result (List (Option ℕ)) HistFault
 joined_rows found rows None = Ok (flat_map (cells_at found) rows)
 joined_rows found rows (Some row) = Err (fault.MissingRow row)

@@ -7,4 +7,3 @@ pub mod Fitting
 pub mod FittingLaws
 pub mod Printed
 pub mod Texts
-pub mod PrintedLaws

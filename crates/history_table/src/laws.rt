@@ -1,7 +1,6 @@
 //! The laws of given histories and their texts, each as the contract of a function that does nothing.
 ghost use Rattle.history_table.specs.History.{OneHistory, HistoryOrFault};
 ghost use Rattle.history_table.specs.FittingLaws.{ExtendsLaw, FirstUnknownLaw};
-ghost use Rattle.history_table.specs.PrintedLaws.{PrintedHistoryLaw, PrintedTableLaw};
 
 use trio_text::{text_has_one_fault, text_has_tokens_or_a_fault, text_is_one_list_of_tokens};
 
@@ -18,20 +17,6 @@ pub fn text_has_a_history_or_a_fault()
     ensures { HistoryOrFault }
 {
     text_has_tokens_or_a_fault();
-}
-
-/// What is printed of a given history is read as that history, and as no other.
-pub fn printed_history_is_that_history()
-    ensures { PrintedHistoryLaw }
-{
-    text_has_one_history();
-}
-
-/// What is printed of a table is read as that table, with every value known, and as nothing else.
-pub fn printed_table_is_that_table()
-    ensures { PrintedTableLaw }
-{
-    text_has_one_history();
 }
 
 /// A table extends a given history where it has each value that is given. The first unknown cell is the first at which none is.

@@ -16,10 +16,8 @@ mod texts;
 pub use fault::HistFault;
 pub use given::Given;
 pub use laws::{
-    given_values_stay_and_gaps_are_found, printed_history_is_that_history,
-    printed_table_is_that_table, text_has_a_history_or_a_fault, text_has_one_history,
+    given_values_stay_and_gaps_are_found, text_has_a_history_or_a_fault, text_has_one_history,
 };
-pub use line::{Line, Lines, Value, Values};
 pub use printing::row_name;
 pub use reader::read_history;
 pub use table::{Table, Tables};

@@ -11,14 +11,10 @@ pub enum Value {
     Word(Name),
 }
 
-pub type Values = List<Value>;
-
 /// A line of a history text: an item's name, arguments, and a value for each instant; none where `?` stands.
 #[derive(Drop)]
 pub struct Line {
     pub name: Name,
-    pub args: Values,
+    pub args: List<Value>,
     pub entries: List<Option<Value>>,
 }
-
-pub type Lines = List<Line>;

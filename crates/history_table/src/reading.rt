@@ -3,7 +3,7 @@ ghost use Rattle.std.specs.Prelude.{◌≡◌, ◌∷◌, ◌<◌, length, slice
 ghost use Rattle.std.specs.Bool.{OnTrue, OnFalse};
 ghost use Rattle.history_table.specs.Decoding.{value_front, entries_of, args_from, args_front, line_of, TookValue, TookArgs, TookEntry, Lacks};
 
-use crate::line::{Line, Value, Values};
+use crate::line::{Line, Value};
 use std::alloc::{AllocError, Global};
 use trio_base::{List, Name};
 use trio_text::{Lexeme, Reserved, Symbol};
@@ -73,7 +73,7 @@ impl Cursor<'_> {
     }
 
     /// Takes the arguments in front: none, or values in `(` and `)`.
-    fn args(&mut self, alloc: Global) -> Result<Option<Values>, AllocError>
+    fn args(&mut self, alloc: Global) -> Result<Option<List<Value>>, AllocError>
         ensures { IfOk result (TookArgs (args_front self.old.rest.now) self.new.rest.now) }
     {
         if !self.takes(Symbol::LeftRound) {

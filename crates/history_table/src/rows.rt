@@ -1,17 +1,17 @@
 //! Which row a line names, and what its entries give the cells.
-ghost use Rattle.std.specs.Prelude.{◌≡◌, ◌<◌, length, slice_get, position, is_none, map, IfOk, IfSome};
+ghost use Rattle.std.specs.Prelude.{◌≡◌, ◌<◌, length, slice_get, position, is_none, map, Some, IsTrue, IfOk, IfSome};
 ghost use Rattle.std.specs.Option.{option_and_then, option_map};
 ghost use Rattle.trio_types.specs.Verdict.{world_of};
 ghost use Rattle.history_table.specs.Rows.{index_in, value_index, arg_indexes, item_named, named_row, entry_cell, is_outside, known_index};
 ghost use Rattle.trio_types.specs.Kinds.{args_of};
 ghost use Rattle.std.specs.Str.{bytes_eq};
 ghost use Rattle.history_table.specs.Decoding.{row_from};
-ghost use Rattle.trio_types.specs.Cells.{rows_of};
+ghost use Rattle.trio_types.specs.Cells.{rows_of, takes};
 
 use crate::line::{Line, Value};
 use std::alloc::{AllocError, Global};
 use trio_base::{List, Name};
-use trio_types::{DomainKind, Ids, Item, Spec, cell_count, cell_parts, index_of};
+use trio_types::{DomainKind, Ids, Item, Spec, cell_count, cell_of, cell_parts, index_of};
 
 /// A row: the number of its item, and the indexes of its arguments' values.
 #[derive(Drop)]
@@ -74,6 +74,7 @@ fn arg_indexes(
 pub fn named_row(alloc: Global, spec: &Spec, line: &Line) -> Result<Option<RowParts>, AllocError>
     ensures named { IfOk result (λ row. option_map row_from row ≡ named_row (world_of spec.now) line.now) }
     ensures within { IfOk result (λ found. IfSome found (λ row. row.item < length spec.now.items)) }
+    ensures taken { IfOk result (λ found. IfSome found (λ row. IsTrue (takes (world_of spec.now) row.item row.args))) }
 {
     let Some(item) = item_named(spec, line.name.as_str()) else {
         return Ok(None);
@@ -101,17 +102,6 @@ fn item_named(spec: &Spec, name: &str) -> Option<u32>
     Some(place as u32)
 }
 
-/// All rows of a specification in their order.
-pub fn all_rows(alloc: Global, spec: &Spec) -> Result<List<RowParts>, AllocError>
-    ensures { IfOk result (λ rows. map row_from rows ≡ rows_of (world_of spec.now)) }
-{
-    let mut rows = Vec::new(alloc);
-    for row in 0..row_count(spec) {
-        rows.push(row_parts(alloc, spec, row)?)?;
-    }
-    Ok(List::from_vec(rows))
-}
-
 /// How many rows there are.
 pub fn row_count(spec: &Spec) -> u32
     ensures { result ≡ length (rows_of (world_of spec.now)) }
@@ -132,17 +122,13 @@ pub fn row_parts(alloc: Global, spec: &Spec, row: u32) -> Result<RowParts, Alloc
     })
 }
 
-impl RowParts {
-    ghost use Rattle.std.specs.Prelude.{◌≡◌};
-    ghost use Rattle.history_table.specs.Rows.{same_row};
-    ghost use Rattle.history_table.specs.Decoding.{row_from};
-
-    /// Whether it is the same row.
-    pub fn is(&self, other: &RowParts) -> bool
-        ensures { result ≡ same_row (row_from self.now) (row_from other.now) }
-    {
-        self.item == other.item && self.args.as_slice() == other.args.as_slice()
-    }
+/// The number of a row.
+pub fn row_number(spec: &Spec, row: &RowParts) -> u32
+    requires item_in { row.now.item < length spec.now.items }
+    requires args_in { IsTrue (takes (world_of spec.now) row.now.item row.now.args) }
+    ensures { slice_get (rows_of (world_of spec.now)) result ≡ Some (row_from row.now) }
+{
+    cell_of(spec, row.item, row.args.as_slice(), 0) / spec.instants
 }
 
 /// What an entry gives a cell of the item of this number: nothing known, or an index; none where it is neither `?` nor in the domain.

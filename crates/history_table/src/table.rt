@@ -1,5 +1,5 @@
 //! Tables.
-ghost use Rattle.std.specs.Prelude.{◌≡◌, [], ◌∷◌, ◌++◌, ◌<◌, length, slice_get, slice_set, OnOk, OnErr, IfErr, MatchOption};
+ghost use Rattle.std.specs.Prelude.{◌≡◌, [], ◌∷◌, ◌++◌, ◌<◌, length, slice_get, slice_set, replicate, OnOk, OnErr, IfOk, IfErr, MatchOption};
 
 use std::alloc::{AllocError, Global};
 use std::marker::Model;
@@ -27,6 +27,17 @@ impl Table {
         Table {
             indexes: List::new(alloc),
         }
+    }
+
+    /// The table of this many cells, each with the index 0; only want of memory refuses it.
+    pub fn blank(alloc: Global, cells: u32) -> Result<Table, AllocError>
+        ensures whole { IfOk result (λ table. length table ≡ cells) }
+        ensures zeros { IfOk result (λ table. table ≡ replicate cells 0) }
+    {
+        let indexes = vec![in alloc; 0; cells as usize]?;
+        Ok(Table {
+            indexes: List::from_vec(indexes),
+        })
     }
 
     /// Appends an index. Only want of memory refuses it, and then the value comes back and the list is as before.

@@ -24,3 +24,8 @@ mod StatementTexts
 mod CanonicalMeant
 mod CanonicalTree
 mod ReadAgain
+mod LinePieces
+mod Written
+mod KnownNames
+mod PrintedRows
+mod PrintedHistory

@@ -1,2 +1,3 @@
 pub mod Laws
 pub mod Brackets
+pub mod PrintedLaws

@@ -1,7 +1,7 @@
 use Rattle.std.proofs.Common.{sym, ap, ◌∙◌, subst, [], IfOk}
 use Rattle.trio_types.specs.Verdict.{world_of}
 use Rattle.history_table.specs.History.{lines_fault, IsHistoryAnswer}
-use Rattle.history_table.specs.Decoding.{lines_by, placed_of, AreFound, IsFault, IsJoined}
+use Rattle.history_table.specs.Decoding.{lines_by, placed_of, AreFound, IsFault}
 use Rattle.history_table.specs.Fitting.{IsGiven}
 use Rattle.history_table.proofs.Answered.{faulty, whole}
 use Rattle.history_table.proofs.LineSteps.{passed_answer}
@@ -19,12 +19,12 @@ read : (c : goal.After-drop-tokens-inside-2) → IsHistoryAnswer (world_of c.arg
 read c =
     let w = world_of c.args.spec.now in
     let found = c.in_ok-found.found in
-    let are = subst (λ xs. AreFound w (placed_of (lines_by c.in-Ok.tokens xs)) found) c.as_slice-2.ensures
-    (subst (λ ts. AreFound w (placed_of (lines_by ts c.as_slice-2.result.now)) found) c.as_slice.ensures c.in_ok-found.ensures.found) in
+    let are = subst (λ xs. AreFound w (placed_of (lines_by c.in-Ok.tokens xs)) found.lines) c.as_slice-2.ensures
+    (subst (λ ts. AreFound w (placed_of (lines_by ts c.as_slice-2.result.now)) found.lines) c.as_slice.ensures c.in_ok-found.ensures.found) in
     let sound = ap (λ xs. lines_fault w [] (placed_of (lines_by c.in-Ok.tokens xs))) (sym c.as_slice-2.ensures)
     ∙ ap (λ ts. lines_fault w [] (placed_of (lines_by ts c.as_slice-2.result.now))) (sym c.as_slice.ensures) ∙ c.in_ok-found.ensures.sound in
-    whole w c.args.text.now c.in-Ok.tokens c.in_ok-lexemes.lexemes found c.joined.result c.in-Ok.ensures.0 c.in_ok-lexemes.ensures are sound
-    (subst (λ fs. IsJoined w fs c.joined.result) c.as_slice-3.ensures c.joined.ensures)
+    whole w c.args.text.now c.in-Ok.tokens c.in_ok-lexemes.lexemes found.lines c.joined.result c.in-Ok.ensures.0 c.in_ok-lexemes.ensures are sound
+    c.joined.ensures
 
 pub returns-clause-answer : goal.returns-clause-answer
 returns-clause-answer c = (read c).0

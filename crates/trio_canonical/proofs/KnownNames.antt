@@ -1,9 +1,10 @@
 -- Items and words of a specification are names, and each has one place among the others.
-use Rattle.std.proofs.Common.{◌≡◌, ℕ, zero, suc, ◌+◌, Bool, true, false, not, ◌||◌, List, [], ◌∷◌, ◌++◌, map, drop, Some, slice_get, option_map, refl, sym, ap, subst, ◌∙◌, arith}
-use Rattle.std.specs.List.{list_all, list_any, flat_map, position, position_from}
+use Rattle.std.proofs.Common.{◌≡◌, ℕ, zero, suc, ◌+◌, Bool, true, false, not, ◌||◌, cond, nat_lt, None, ap₂, List, [], ◌∷◌, ◌++◌, map, drop, Some, slice_get, option_map, refl, sym, ap, subst, ◌∙◌, arith}
+use Rattle.std.specs.List.{list_all, list_any, flat_map, position, position_from, position_or_len}
 use Rattle.std.specs.Str.{bytes_eq}
 use Rattle.std.proofs.lemmas.Bool.{false≢true, and_parts, and_from, cond-true, cond-false, false_from_ne_true, not-true}
 use Rattle.std.proofs.lemmas.Iterator.Adapters.{position_from-zero}
+use Rattle.std.proofs.lemmas.List.{length-map}
 use Rattle.std.proofs.lemmas.List.Folds.{list_any-append}
 use Rattle.std.proofs.lemmas.Option.{none-some, same_Some, slice_get-map}
 use Rattle.std.proofs.lemmas.Slice.Eq.{bytes_eq-Decides}
@@ -19,7 +20,6 @@ use Rattle.trio_types.specs.WellFormed.{has_bool}
 use Rattle.trio_types.proofs.Lists.{each_of, any_from_some, all_left, all_right, all_flat}
 use Rattle.trio_types.proofs.Specs.{Formed}
 use Rattle.history_table.specs.Rows.{item_named}
-use Rattle.history_table.proofs.RowNumbers.{position-map}
 
 -- ---- parts of distinct names
 
@@ -67,6 +67,14 @@ place_of_name names are k name at =
     position_from-zero (λ other. bytes_eq other name) names ∙ place_from 0 names are k name at ∙ ap Some same
 
 -- ---- items
+
+-- what is looked for in a list, and in the list of what its elements have
+position-map : {A B : Type 0} (f : A → B) (p : B → Bool) (xs : List A) → position p (map f xs) ≡ position (λ x. p (f x)) xs
+position-map {A} {B} f p xs = ap₂ (λ k l. cond (nat_lt k l) (Some k) None) (go xs) (length-map xs f)
+  where
+    go : (ys : List A) → position_or_len p (map f ys) ≡ position_or_len (λ x. p (f x)) ys
+    go [] = refl
+    go (y ∷ ys) = ap (λ k. cond (not (p (f y))) (1 + k) 0) (go ys)
 
 domain_names : Parts → List (List ℕ)
 domain_names p = flat_map names_of_domain (drop 1 p.domains)

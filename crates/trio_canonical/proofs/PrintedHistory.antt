@@ -1,21 +1,16 @@
 -- The text that is printed of a given history is that given history.
-use Rattle.std.proofs.Common.{◌≡◌, ℕ, suc, ◌+◌, ◌*◌, ◌/◌, ◌<◌, Bool, true, false, not, ◌||◌, ◌==◌, List, [], ◌∷◌, ◌++◌, length, take, drop, map, zip, Option, None, Some, Ok, slice_get, option_map, refl, sym, ap, ap₂, subst, ◌∙◌, arith, length-append, length-take-le, take-append-drop}
-use Rattle.std.proofs.Math.Nat.{mul-div_cancel}
+use Rattle.std.proofs.Common.{◌≡◌, ℕ, suc, ◌+◌, Bool, true, false, not, ◌||◌, ◌==◌, List, [], ◌∷◌, ◌++◌, length, take, drop, map, zip, Option, None, Some, Ok, slice_get, option_map, refl, sym, ap, ap₂, subst, ◌∙◌, arith, length-append, length-take-le, take-append-drop}
 use Rattle.std.proofs.lemmas.List.{length-map}
 use Rattle.std.specs.Prelude.{if◌then◌else◌}
 use Rattle.std.specs.List.{list_all, flat_map, find, position, position_from}
-use Rattle.std.specs.Str.{bytes_eq}
 use Rattle.std.proofs.lemmas.Bool.{false≢true, and_parts, and_from, cond-true, cond-false, false_from_ne_true, not-true}
 use Rattle.std.proofs.lemmas.Iterator.Adapters.{position_from-zero}
 use Rattle.std.proofs.lemmas.List.Folds.{list_all-append, list_any-append}
-use Rattle.std.proofs.lemmas.Slice.Eq.{bytes_eq-Decides}
 use Rattle.trio_types.specs.World.{World, instants_of}
 use Rattle.trio_types.specs.Cells.{Row, the_cell, rows_of, cells_of_row, cells_of, cell_size}
 use Rattle.trio_types.specs.Parts.{Parts, world_of_parts}
 use Rattle.trio_types.proofs.Lists.{all_from_each}
-use Rattle.trio_types.proofs.Specs.{Formed, formed_of, some_instant}
-use Rattle.trio_types.proofs.CellNumbers.{cell_at}
-use Rattle.trio_types.proofs.CellOrder.{cell_once}
+use Rattle.trio_types.proofs.Specs.{Formed, formed_of}
 use Rattle.trio_print.specs.Pieces.{Piece, pieces_text}
 use Rattle.trio_print.proofs.Spaced.{are_spaced}
 use Rattle.trio_print.proofs.Printed.{tokens_of, spaced_tokens}
@@ -29,31 +24,21 @@ use Rattle.history_table.specs.Fitting.{IsGiven, is_below}
 use Rattle.history_table.specs.Decoding.{AreFound, has_row, row_from, cells_found, cells_at, joined_rows}
 use Rattle.history_table.specs.Texts.{given_text}
 use Rattle.history_table.proofs.Tables.{known_within}
-use Rattle.history_table.proofs.LineRuns.{eq_true, eq_from}
+use Rattle.history_table.proofs.LineRuns.{eq_true}
 use Rattle.history_table.proofs.LineSteps.{history_is}
-use Rattle.history_table.specs.PrintedLaws.{PrintedHistoryLaw, PrintedTableLaw}
+use Rattle.history_table.proofs.RowPlaces.{same_row_from, same_row_self, Once, rows_once}
+use Rattle.trio_canonical.specs.PrintedLaws.{PrintedHistoryLaw, PrintedTableLaw}
 use Rattle.history_table.proofs.Fits.{row_length, zip-append, same_Ok}
-use Rattle.history_table.proofs.LinePieces.{line_pieces, numbered_lines, read_one_by_one, AreWritable, lines_spaced}
-use Rattle.history_table.proofs.Written.{written_line, written_lines, lines_said}
-use Rattle.history_table.proofs.PrintedRows.{RowLine, row_line}
+use Rattle.trio_canonical.proofs.LinePieces.{line_pieces, numbered_lines, read_one_by_one, AreWritable, lines_spaced}
+use Rattle.trio_canonical.proofs.Written.{written_line, written_lines, lines_said}
+use Rattle.trio_canonical.proofs.PrintedRows.{RowLine, row_line}
 
 -- ---- rows are apart
-
-same_row_from : (a b : Row) → same_row a b ≡ true → a ≡ b
-same_row_from a b is =
-    let both = and_parts (a.item == b.item) (bytes_eq a.args b.args) is in
-    ap₂ (λ i vs. record { item = i; args = vs }) (eq_from a.item b.item both.0) ((bytes_eq-Decides a.args b.args).0 both.1)
-
-same_row_self : (a : Row) → same_row a a ≡ true
-same_row_self a = and_from (a.item == a.item) (bytes_eq a.args a.args) (eq_true a.item a.item refl) ((bytes_eq-Decides a.args a.args).1 refl)
 
 -- each row is another than those behind it
 Apart : List Row → Type 0
 Apart [] = Unit {0}
 Apart (row ∷ rows) = (list_all (λ other. not (same_row row other)) rows ≡ true) × Apart rows
-
-record Once (rows : List Row) : Type 0 where
-  once : (m n : ℕ) (row : Row) → slice_get rows m ≡ Some row → slice_get rows n ≡ Some row → m ≡ n
 
 apart_from : (rows : List Row) → Once rows → Apart rows
 unfolding Apart
@@ -64,19 +49,6 @@ apart_from (row ∷ rows) o = (
       (λ yes. let e : 0 ≡ suc k = o.once 0 (suc k) other (ap Some (same_row_from row other yes)) at in absurd (omega (arith, e))))),
   apart_from rows (record { once = λ m n r at bt. let e : suc m ≡ suc n = o.once (suc m) (suc n) r at bt in omega (arith, e) }),
 )
-
--- each row has one place, as its first cell has
-places_once : (m n c : ℕ) → 0 < c → m * c + 0 ≡ n * c + 0 → m ≡ n
-places_once m n c some same =
-    let products : m * c ≡ n * c = omega (arith, same) in sym (mul-div_cancel m some) ∙ ap (λ k. k / c) products ∙ mul-div_cancel n some
-
-rows_once : (p : Parts) → Formed p → Once (rows_of (world_of_parts p))
-rows_once p f = record {
-  once = λ m n row at bt.
-      let w : World = world_of_parts p in
-      places_once m n p.instants (some_instant p f)
-      (cell_once w (m * p.instants + 0) (n * p.instants + 0) (the_cell row.item row.args 0) (cell_at w m row 0 at (some_instant p f)) (cell_at w n row 0 bt (some_instant p f)));
-}
 
 -- ---- what is given, row by row
 

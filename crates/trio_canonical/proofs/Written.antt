@@ -22,7 +22,7 @@ use Rattle.history_table.specs.Spelled.{value_tokens, entry_tokens, more_tokens,
 use Rattle.history_table.specs.Printed.{text_in, text_in_domain, value_text, values_text, args_text, name_of_item}
 use Rattle.trio_types.specs.Kinds.{args_of}
 use Rattle.history_table.specs.Texts.{value_domain, entry_text, entry_behind_blank, line_text, lines_text}
-use Rattle.history_table.proofs.LinePieces.{entry_pieces, behind_args, line_front, line_pieces}
+use Rattle.trio_canonical.proofs.LinePieces.{entry_pieces, behind_args, line_front, line_pieces}
 
 -- a number, with a sign where it is below 0
 abbrev pub written_integer : ℤ → Value

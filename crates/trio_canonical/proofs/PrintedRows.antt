@@ -29,9 +29,9 @@ use Rattle.history_table.specs.Fitting.{is_below}
 use Rattle.history_table.specs.Rows.{index_in, index_in_domain, value_index, arg_indexes, item_named, row_of_item, named_row, index_for, entry_cell, is_outside, known_index}
 use Rattle.trio_types.specs.Kinds.{args_of}
 use Rattle.history_table.specs.History.{known_cells}
-use Rattle.history_table.proofs.KnownNames.{place_of_name, item_found, item_is_named, KnownWords, words_known}
-use Rattle.history_table.proofs.LinePieces.{is_writable, is_entry, Writable}
-use Rattle.history_table.proofs.Written.{written_integer, written_in, written_in_domain, written_value, written_args, written_entries, written_line}
+use Rattle.trio_canonical.proofs.KnownNames.{place_of_name, item_found, item_is_named, KnownWords, words_known}
+use Rattle.trio_canonical.proofs.LinePieces.{is_writable, is_entry, Writable}
+use Rattle.trio_canonical.proofs.Written.{written_integer, written_in, written_in_domain, written_value, written_args, written_entries, written_line}
 
 -- ---- values
 
