@@ -5,7 +5,7 @@ use crate::{
     Bell, Counts, FileShelf, Files, MemShelf, MemSink, OutSink, Shelf, ShelfFault, Sink, SinkFault,
     StillBell, SureShelf, SureSink, words_given, write_pieces, write_whole,
 };
-use std::alloc::{AllocError, Global};
+use std::alloc::{AllocError, Allocator, Global};
 use std::cell::Cell;
 use std::env::FillError;
 use std::fmt::{Debug, Display};
