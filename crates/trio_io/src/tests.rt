@@ -3,14 +3,17 @@ ghost use Rattle.std.specs.Prelude.{◌≡◌, ◌<◌, None};
 
 use crate::{
     Bell, Counts, FileShelf, Files, MemShelf, MemSink, OutSink, Shelf, ShelfFault, Sink, SinkFault,
-    StillBell, SureShelf, SureSink, write_pieces, write_whole,
+    StillBell, SureShelf, SureSink, words_given, write_pieces, write_whole,
 };
-use std::alloc::{AllocError, Global};
+use std::alloc::{AllocError, Allocator, Global};
 use std::cell::Cell;
+use std::env::FillError;
 use std::fmt::{Debug, Display};
+use std::fs::{File, Metadata, OpenOptions};
 use std::process::Abort;
+use std::rt::Env;
 use std::test::Fail;
-use std::{fs, io};
+use std::{fs, io, rt};
 
 /// Ends the test with both values unless they are equal: an assertion is proved where it stands with all that it prints, and a call costs next
 /// to nothing.
@@ -235,6 +238,123 @@ fn real_failures_are_counted(rt: HostRuntime) -> Result<(), Fail> {
     file_row(&rt, &mut shelf, "trio_io_none", 3, failed, b">")?;
     same(&rt, &shelf.put("trio_io_none/a", b"abc"), &failed);
     same(&rt, &(shelf.failed_fetches, shelf.failed_puts), &(2, 2));
+    Ok(())
+}
+
+/// Files whose every call wants memory.
+#[derive(Drop)]
+struct WantingFiles {}
+
+fn wanting<T>() -> io::Result<T> {
+    Err(io::Error::from(io::ErrorKind::OutOfMemory))
+}
+
+impl rt::Files for WantingFiles {
+    type File = File;
+
+    type Dir = io::Empty;
+
+    fn open_file(&self, _how: &OpenOptions, _path: &str) -> io::Result<File> {
+        wanting()
+    }
+
+    fn open_dir(&self, _path: &str) -> io::Result<io::Empty> {
+        wanting()
+    }
+
+    fn metadata(&self, _path: &str) -> io::Result<Metadata> {
+        wanting()
+    }
+
+    fn symlink_metadata(&self, _path: &str) -> io::Result<Metadata> {
+        wanting()
+    }
+
+    fn copy(&self, _from: &str, _to: &str) -> io::Result<u64> {
+        wanting()
+    }
+
+    fn rename(&self, _from: &str, _to: &str) -> io::Result<()> {
+        wanting()
+    }
+
+    fn remove_file(&self, _path: &str) -> io::Result<()> {
+        wanting()
+    }
+
+    fn create_dir(&self, _path: &str) -> io::Result<()> {
+        wanting()
+    }
+
+    fn remove_dir(&self, _path: &str) -> io::Result<()> {
+        wanting()
+    }
+
+    fn remove_dir_all<B: Allocator>(&self, _alloc: B, _path: &str) -> io::Result<()> {
+        wanting()
+    }
+}
+
+#[test]
+fn want_of_memory_is_no_failure(rt: HostRuntime) -> Result<(), Fail> {
+    let files = WantingFiles {};
+    let mut shelf = FileShelf::new(&files);
+    file_row(&rt, &mut shelf, "a", 3, Err(ShelfFault::Memory), b">")?;
+    same(&rt, &shelf.put("a", b"abc"), &Err(ShelfFault::Memory));
+    same(&rt, &(shelf.failed_fetches, shelf.failed_puts), &(0, 0));
+    Ok(())
+}
+
+/// A command line of these words.
+#[derive(Drop)]
+struct Line<'a> {
+    words: &'a [&'a [u8]],
+}
+
+impl<'a> Env for Line<'a> {
+    fn arg(&self, i: usize, buf: &mut [u8]) -> Result<usize, FillError> {
+        let Some(word) = self.words.get(i) else {
+            return Err(FillError::NotPresent);
+        };
+        if word.len() > buf.len() {
+            return Err(FillError::TooLong);
+        }
+        buf[..word.len()].copy_from_slice(word);
+        Ok(word.len())
+    }
+
+    fn var(&self, _name: &str, _buf: &mut [u8]) -> Result<usize, FillError> {
+        Err(FillError::NotPresent)
+    }
+
+    fn var_at(&self, _i: usize, _buf: &mut [u8]) -> Result<usize, FillError> {
+        Err(FillError::NotPresent)
+    }
+}
+
+/// The words behind the program's name of such a command line.
+fn line_row(
+    rt: &(impl Abort + AllocGlobal),
+    words: &[&[u8]],
+    wanted: &[&str],
+) -> Result<(), AllocError> {
+    let given = words_given(&(Line { words }, rt.alloc()))?;
+    holds(
+        rt,
+        given
+            .iter()
+            .map(|word| word.as_str())
+            .eq(wanted.iter().copied()),
+    );
+    Ok(())
+}
+
+#[test]
+fn words_stand_behind_the_name(rt: HostRuntime) -> Result<(), Fail> {
+    line_row(&rt, &[b"trio", b"check", b"--at"], &["check", "--at"])?;
+    line_row(&rt, &[b"trio"], &[])?;
+    line_row(&rt, &[], &[])?;
+    line_row(&rt, &[b"trio", b"a", b"\xff"], &[])?;
     Ok(())
 }
 
