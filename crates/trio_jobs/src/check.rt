@@ -59,7 +59,7 @@ fn judged(alloc: Global, spec: &Spec, given: &Given) -> Result<Answer, Fault>
     requires { IsGiven (world_of spec.now) given.now }
     ensures { Judges spec.now given.now result }
 {
-    let Ok(mut table) = blank_table(alloc, cell_count(spec)) else {
+    let Ok(mut table) = Table::blank(alloc, cell_count(spec)) else {
         return Err(Fault::Memory);
     };
     match given.whole(&mut table) {
@@ -69,19 +69,6 @@ fn judged(alloc: Global, spec: &Spec, given: &Given) -> Result<Answer, Fault>
         },
         Err(cell) => Err(unknown(alloc, spec, cell)),
     }
-}
-
-/// A table of this many cells, each with the index 0.
-fn blank_table(alloc: Global, cells: u32) -> Result<Table, AllocError>
-    ensures { IfOk result (λ table. length table ≡ cells) }
-{
-    let mut table = Table::new(alloc);
-    for _cell in 0..cells {
-        if let Err((_, error)) = table.push(0) {
-            return Err(error);
-        }
-    }
-    Ok(table)
 }
 
 /// The fault that names a cell, or want of memory for its row's name.

@@ -138,11 +138,7 @@ impl FileRefusal {
 }
 
 /// The specification in a file.
-pub(crate) fn load_spec<F: Shelf>(
-    alloc: Global,
-    shelf: &mut F,
-    name: &Name,
-) -> Result<Spec, Fault>
+pub(crate) fn load_spec<F: Shelf>(alloc: Global, shelf: &mut F, name: &Name) -> Result<Spec, Fault>
     ensures reads { OnlyReads 1 (F.seen shelf.old) (F.seen shelf.new) }
     ensures loads { Loads (F.seen shelf.old) (F.seen shelf.new) (YieldsSpec (F.seen shelf.old) name.now) result }
 {
