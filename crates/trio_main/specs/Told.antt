@@ -219,6 +219,20 @@ abbrev pub NeverLaw : Type 0
 NeverLaw = (asked : Option Command) (call : Call) (old new : SinkView) →
     (Tells asked call old new status.Stopped → ⊥) × (Tells asked call old new status.SaveFault → ⊥)
 
+-- two calls of `check` wrote `true` one behind the other, and every axiom is true throughout the history that the shelf told before the first
+pub record WroteTrueTwice (shelf : ShelfView) (s h : List ℕ) (old new : SinkView) : Type 0 where
+  pub spec : Spec
+  pub table : List ℕ
+  pub spec_file : IsSpecFile shelf s spec
+  pub history_file : IsHistoryFile shelf h spec (map Some table)
+  pub each_true : AllTrue spec table
+  pub written : new.written ≡ old.written ++ codes "true\n" ++ codes "true\n"
+
+-- what two calls with these words tell, where both end with status 0: the first begins with `shelf` and `old`, the second ends with `new`
+abbrev pub JudgesTwice : Option Command → ShelfView → SinkView → SinkView → Status → Status → Type 0
+JudgesTwice asked shelf old new first second = (s h : List ℕ) → asked ≡ Some (command.Check s h) → shelf.tells ≡ true → old.tells ≡ true →
+    first ≡ status.Done → second ≡ status.Done → WroteTrueTwice shelf s h old new
+
 -- each command has places for two files, and none saves a file yet
 abbrev pub TwoFilesLaw : Type 0
 TwoFilesLaw = (c : Command) → files_named (Some c) ≡ 2

@@ -8,7 +8,7 @@ ghost use Rattle.trio_jobs.specs.declared.command.Command.{Command};
 ghost use Rattle.trio_jobs.specs.declared.status.Status.{Status};
 ghost use Rattle.trio_io.specs.Words.{word_bytes};
 ghost use Rattle.trio_jobs.specs.Command.{command_of};
-ghost use Rattle.trio_main.specs.Due.{Due};
+ghost use Rattle.trio_main.specs.Due.{job_of};
 
 mod complete_rows;
 mod history_rows;
@@ -17,13 +17,14 @@ mod operator_rows;
 mod spec_rows;
 
 use super::*;
-use crate::fault::{Fault, Text};
-use crate::message::say;
+use crate::laws::check_twice;
+use branch_state::Problem;
 use history_table::HistFault;
 use std::alloc::{AllocError, Global};
 use std::process::Abort;
 use trio_base::Name;
 use trio_io::{Counts, Files, MemShelf, MemSink, SureShelf};
+use trio_jobs::{Fault, Text, load, say};
 use trio_reader::{SpecFault, Which};
 
 const IMPLIES_NEXT: &str = "time 3; item p : bool; axiom A : p -> Dist(p, 1);";
@@ -430,14 +431,16 @@ fn a_byte_of_no_text(rt: HostRuntime) {
 }
 
 /// The number with which the program ends.
-const NUMBERS: [(Status, u8); 7] = [
+const NUMBERS: [(Status, u8); 9] = [
     (Status::Done, 0),
     (Status::False, 1),
     (Status::Usage, 2),
+    (Status::Stopped, 3),
     (Status::Refused, 4),
     (Status::ReadFault, 5),
     (Status::WriteFault, 6),
     (Status::Memory, 7),
+    (Status::SaveFault, 8),
 ];
 
 #[test]
@@ -473,6 +476,7 @@ fn faults_have_their_messages(rt: HostRuntime) {
     );
     says(&rt, Fault::Missing(p), "4 refused history missing p\n");
     says(&rt, Fault::Unknown(q, 255), "4 unknown q(0,red) 255\n");
+    says(&rt, Fault::Goal, "4 refused goal\n");
     says(&rt, Fault::Write, "6 ");
     says(&rt, Fault::Memory, "7 fault memory\n");
 }
@@ -535,7 +539,7 @@ fn refused_histories_have_their_messages(rt: HostRuntime) {
 
 /// Over a shelf that never fails and a sink in memory: the answer due, or want of memory, and every file as it was.
 fn sure_status(alloc: Global, words: &[String], shelf: &mut SureShelf, out: &mut MemSink) -> Status
-    ensures due { (reads : ℕ) (s : Status) (text : List ℕ) → Due (command_of (word_bytes words.now)) (sure_seen shelf.old) reads s text
+    ensures due { (reads : ℕ) (s : Status) (text : List ℕ) → (job_of (command_of (word_bytes words.now))).due (sure_seen shelf.old) reads s text
         → (Rose (mem_faults out.old) (mem_faults out.new) → ⊥)
         → ((result ≡ s) × (mem_written out.new ≡ mem_written out.old ++ text)) ⊎ (result ≡ Status.Memory) }
     ensures files { (s h name : List ℕ) → command_of (word_bytes words.now) ≡ Some (Command.Check s h)
@@ -566,4 +570,49 @@ fn sure_row(rt: &(impl Abort + AllocGlobal), row: &str) {
 fn what_is_due_is_given(rt: HostRuntime) {
     sure_row(&rt, "p: 0 0 0 ~ 0 true\n");
     sure_row(&rt, "p: 0 1 1 ~ 1 false A 2\n");
+}
+
+/// A specification with a goal.
+const WITH_GOAL: &str =
+    "time 3; item p : bool; axiom A : p -> Dist(p, 1); goal G at 0 : p; goal H : !p;";
+
+/// Asserts how many axioms and goals a problem's specification has.
+fn has_statements(rt: &impl Abort, problem: &Problem, axioms: usize, goals: usize) {
+    assert_eq!(rt; problem.spec.axioms.len(), axioms);
+    assert_eq!(rt; problem.spec.goals.len(), goals);
+}
+
+/// Asserts what loading with this goal gives: so many axioms and goals, or this refusal.
+fn goal_row(rt: &(impl Abort + AllocGlobal), goal: &str, statements: (usize, usize), want: &str) {
+    let alloc = rt.alloc();
+    let files = two_files(alloc, WITH_GOAL.as_bytes(), b"p: ? ? ?").expect(rt, "memory");
+    let mut shelf = SureShelf::new(alloc, files).expect(rt, "memory");
+    let spec = Name::new(alloc, "s").expect(rt, "memory");
+    let history = Name::new(alloc, "h").expect(rt, "memory");
+    let name = Name::new(alloc, goal).expect(rt, "memory");
+    match load(alloc, &mut shelf, &spec, &history, Some(&name)) {
+        Ok(problem) => has_statements(rt, &problem, statements.0, statements.1),
+        Err(fault) => says(rt, fault, want),
+    }
+}
+
+#[test]
+fn goals_that_are_asked_for(rt: HostRuntime) {
+    goal_row(&rt, "G", (2, 1), "");
+    goal_row(&rt, "H", (2, 1), "");
+    goal_row(&rt, "X", (0, 0), "4 refused goal\n");
+    goal_row(&rt, "A", (0, 0), "4 refused goal\n");
+}
+
+#[test]
+fn two_checks_follow_each_other(rt: HostRuntime) {
+    let alloc = rt.alloc();
+    let files = two_files(alloc, IMPLIES_NEXT.as_bytes(), b"p: 0 0 0").expect(&rt, "memory");
+    let mut shelf = SureShelf::new(alloc, files).expect(&rt, "memory");
+    let mut out = ample(alloc).expect(&rt, "memory");
+    let words = words_in(alloc, "check s h").expect(&rt, "memory");
+    let mut bell = StillBell::new();
+    let statuses = check_twice(alloc, words.as_slice(), &mut shelf, &mut out, &mut bell);
+    is_due(&rt, out.written(), "true\ntrue\n", "check s h");
+    assert_eq!(rt; (statuses.0.number(), statuses.1.number()), (0, 0));
 }
