@@ -49,7 +49,10 @@ fn check_answer<F: Shelf>(
     ensures reads { OnlyReads 2 (F.seen shelf.old) (F.seen shelf.new) }
     ensures computes { Beside (F.seen shelf.old) (F.seen shelf.new) (Computes (check_job spec_name.now history_name.now) result) }
 {
-    let spec = load_spec(alloc, shelf, spec_name)?;
+    let spec = match load_spec(alloc, shelf, spec_name) {
+        Ok(spec) => spec,
+        Err(fault) => return Err(fault),
+    };
     let given = load_history(alloc, shelf, &spec, history_name)?;
     judged(alloc, &spec, &given)
 }

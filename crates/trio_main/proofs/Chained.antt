@@ -1,5 +1,5 @@
 -- One call of `check` behind another.
-use Rattle.std.proofs.Common.{◌≡◌, ◌++◌, List, ℕ, Option, None, Some, sym, ◌∙◌, subst, codes}
+use Rattle.std.proofs.Common.{◌≡◌, ℕ, true, List, Option, None, Some, sym, ◌∙◌, subst}
 use Rattle.trio_io.specs.Outside.{ShelfView, BellView, SinkView, StaysSink}
 use Rattle.trio_types.specs.declared.spec.Spec.{Spec}
 use Rattle.trio_jobs.specs.declared.status.Status.{Status}
@@ -30,12 +30,12 @@ files_kept asked before now bell rung s h name is leaves =
     left.others name (λ saved. let wrong : None ≡ Some name = saved in cc)
 
 -- the second of two calls judges the files of the first, and writes behind it
-pub judges_twice : (asked : Option Command) (before middle now : ShelfView) (bell rung : BellView) (old between new : SinkView) (first second : Status) →
+pub judges_twice : (asked : Option Command) (before middle now : ShelfView) (bell rung next after : BellView) (old between new : SinkView) (first second : Status) →
     TellsCheck asked (call_of before middle bell rung) old between first → Leaves asked (call_of before middle bell rung) → StaysSink old between →
-    TellsCheck asked (call_of middle now bell rung) between new second → JudgesTwice asked before old new first second
-judges_twice asked before middle now bell rung old between new first second tells leaves stays then = λ s h is shelf sink done also.
+    TellsCheck asked (call_of middle now next after) between new second → JudgesTwice asked before old new first second
+judges_twice asked before middle now bell rung next after old between new first second tells leaves stays then = λ s h is shelf sink done also.
     let a = wrote_true asked before middle bell rung s h old between first is done shelf sink tells in
-    let b = wrote_true asked middle now bell rung s h between new second is also (leaves.tells ∙ shelf) (stays.tells ∙ sink) then in
+    let b = wrote_true asked middle now next after s h between new second is also (leaves.tells ∙ shelf) (stays.tells ∙ sink) then in
     let kept : (name : List ℕ) → before.file name ≡ middle.file name = λ name. sym (files_kept asked before middle bell rung s h name is leaves) in
     record {
       spec = b.spec;
