@@ -1,6 +1,6 @@
 -- What a status tells of its own is read off the answer that was said.
 use Rattle.std.proofs.Common.{◌≡◌, ℕ, ◌⊎◌, inl, inr, Bool, List, Option, None, Some, refl, sym, subst}
-use Rattle.trio_io.specs.Outside.{ShelfView, SinkView, HasFetchCause, Writes}
+use Rattle.trio_io.specs.Outside.{ShelfView, SinkView, HasFetchCause, WritesAll}
 use Rattle.trio_text.specs.declared.token.Token.{Token}
 use Rattle.trio_types.specs.declared.spec.Spec.{Spec}
 use Rattle.explain_answers.specs.declared.command.Task.{Task}
@@ -54,7 +54,7 @@ serves_status asked before now s text (inr served) = elim served.ends [
 ]
 
 texts_tell : (asked : Option Asked) (before now : ShelfView) (old new : SinkView) (s : Status) (text : List ℕ) → IsOfTexts s →
-    SaysOf asked before now s text → Writes old new text → TellsStatus asked before now old new s
+    SaysOf asked before now s text → WritesAll old new text → TellsStatus asked before now old new s
 texts_tell asked before now old new status.Usage text never says wrote = absurd never
 texts_tell asked before now old new status.ReadFault text never says wrote = absurd never
 texts_tell asked before now old new status.WriteFault text never says wrote = absurd never
@@ -62,11 +62,11 @@ texts_tell asked before now old new status.Memory text never says wrote = absurd
 texts_tell asked before now old new s text is says wrote = (text, says, wrote)
 
 answer_tells : (asked : Option Asked) (before now : ShelfView) (old new : SinkView) (s : Status) (text : List ℕ) → Answers asked before now s text →
-    Writes old new text → TellsStatus asked before now old new s
+    WritesAll old new text → TellsStatus asked before now old new s
 answer_tells asked before now old new s text (inr want) wrote =
-    subst (TellsStatus asked before now old new) (sym want.status_is) (subst (Writes old new) want.text_is wrote)
+    subst (TellsStatus asked before now old new) (sym want.status_is) (subst (WritesAll old new) want.text_is wrote)
 answer_tells None before now old new s text (inl usage) wrote =
-    subst (TellsStatus None before now old new) (sym usage.status_is) (refl, usage.unfetched, subst (Writes old new) usage.text_is wrote)
+    subst (TellsStatus None before now old new) (sym usage.status_is) (refl, usage.unfetched, subst (WritesAll old new) usage.text_is wrote)
 answer_tells (Some a) before now old new s text (inl serves) wrote = elim (serves_status a before now s text serves) [
   | inl texts ↦ texts_tell (Some a) before now old new s text texts serves wrote
   | inr read ↦ subst (TellsStatus (Some a) before now old new) (sym read.0) read.1

@@ -2,7 +2,7 @@
 -- sink.
 use Rattle.std.specs.Prelude.{◌≡◌, ℕ, ◌≤◌, ◌⊎◌, Bool, true, false, List, ◌++◌, length, map, Option, None, Some, codes}
 use Rattle.trio_base.specs.declared.limits.TheConstants.{MOST_SPEC_BYTES, MOST_HISTORY_BYTES}
-use Rattle.trio_io.specs.Outside.{ShelfView, SinkView, Rose, Holds, IsLonger, HasFetchCause, Writes, WritesPart}
+use Rattle.trio_io.specs.Outside.{ShelfView, SinkView, Rose, Holds, IsLonger, HasFetchCause, WritesAll, WritesPart}
 use Rattle.trio_text.specs.declared.token.Token.{Token}
 use Rattle.trio_types.specs.declared.spec.Spec.{Spec}
 use Rattle.trio_types.specs.World.{World}
@@ -166,7 +166,7 @@ Answers asked before now s text = SaysOf asked before now s text ⊎ IsWant s te
 
 -- the text went out and the status is the answer's, or a write failed and the status says so
 abbrev pub Said : Status → List ℕ → SinkView → SinkView → Status → Type 0
-Said s text old new result = ((result ≡ s) × Writes old new text) ⊎ ((result ≡ status.WriteFault) × WritesPart old new text)
+Said s text old new result = ((result ≡ s) × WritesAll old new text) ⊎ ((result ≡ status.WriteFault) × WritesPart old new text)
 
 -- an answer with its cause was said
 pub record Finishes (asked : Option Asked) (before now : ShelfView) (old new : SinkView) (result : Status) : Type 0 where
@@ -181,8 +181,8 @@ CountsFetch before now = Rose before.counts.failed_fetches now.counts.failed_fet
 
 -- what each status tells: the words are no command, a fetch failed, a write failed, memory was wanting, or what was written is said of the texts
 abbrev pub TellsStatus : Option Asked → ShelfView → ShelfView → SinkView → SinkView → Status → Type 0
-TellsStatus asked before now old new status.Usage = (asked ≡ None) × (now ≡ before) × Writes old new usage_line
+TellsStatus asked before now old new status.Usage = (asked ≡ None) × (now ≡ before) × WritesAll old new usage_line
 TellsStatus asked before now old new status.ReadFault = CountsFetch before now
 TellsStatus asked before now old new status.WriteFault = Rose old.faults new.faults
-TellsStatus asked before now old new status.Memory = Writes old new memory_line
-TellsStatus asked before now old new s = (text : List ℕ) × SaysOf asked before now s text × Writes old new text
+TellsStatus asked before now old new status.Memory = WritesAll old new memory_line
+TellsStatus asked before now old new s = (text : List ℕ) × SaysOf asked before now s text × WritesAll old new text
